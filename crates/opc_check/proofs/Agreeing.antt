@@ -1,4 +1,4 @@
--- A file reads if none of its rows is bad, and otherwise has the fault of the first.
+-- A file can be read if none of its rows is bad, and otherwise has the fault of the first.
 use Rattle.std.proofs.Common.{◌≡◌, ◌≤◌, ◌+◌, ◌∷◌, ◌∙◌, [], ℕ, List, sym, refl, ap, arith, true, false}
 use Rattle.std.specs.Prelude.{Option, Some, None, Result, Ok, Err, nat_le}
 use Rattle.std.proofs.lemmas.Bool.Decides.{nat_tests}
@@ -14,7 +14,7 @@ use Rattle.opc_import.specs.declared.fault.ImportFault.{ImportFault}
 use Rattle.opc_check.specs.Judged.{Bad, Judged, bad_rows, file_below, good_rows, judged, judged_from, last_judged, with_bad, with_good}
 use Rattle.opc_check.specs.Laws.{ReadsIfNoneIsBad, reading, unless_bad}
 
--- a row that reads stands before the others, unless one of them is bad
+-- a row that can be read stands before the others, unless one of them is bad
 good_first : (number : ℕ) (row : Row) (rows : List Row) (bad : List Bad)
     → with_row number (Ok row) (unless_bad rows bad) ≡ unless_bad (row ∷ rows) bad
 good_first number row rows [] = refl

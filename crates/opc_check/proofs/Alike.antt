@@ -1,4 +1,4 @@
--- Files whose records are the same, or both too long: the same is told of them.
+-- Files whose records are the same, or both too long: the same is reported of them.
 use Rattle.std.proofs.Common.{◌≡◌, ◌∙◌, ◌⊎◌, ◌+◌, ◌-◌, ◌≤◌, ℕ, zero, suc, Bool, true, false, cond, List, [], ◌∷◌, ◌++◌, length, take, drop}
 use Rattle.std.proofs.Common.{IfSome, sym, refl, ap, map, subst, inl, inr, arith}
 use Rattle.std.specs.Prelude.{◌==◌, Option, Some, None, Result, Ok, Err, decimal, codes, nat_le, nat_lt}
@@ -16,7 +16,7 @@ use Rattle.opc_import.proofs.CutRows.{Begins}
 use Rattle.opc_check.specs.Excess.{AreToldAlike, kept}
 use Rattle.opc_check.specs.Judged.{Bad, Judged, bad_rows, file_below, good_rows, judged, judged_from, last_judged}
 use Rattle.opc_check.specs.Problems.{IsReading, IsReadingOf, Problem, bad_problem, most_told}
-use Rattle.opc_check.specs.Words.{count_text}
+use Rattle.opc_check.specs.Words.{columns_text, count_text, quoting_text}
 use Rattle.opc_check.specs.declared.reading.Reading.{Reading}
 use Rattle.opc_check.proofs.Keeping.{AreAlike, AreFew, Long, Same, kept_alike, kept_few}
 
@@ -53,13 +53,28 @@ too_long number fields = record { number = number; fields = fields; why = why.Co
 abbrev with_text : ℕ → List ℕ → Problem
 with_text number text = record { number = number; fault = fault.RowFault number why.Columns; text = text }
 
-same_words : (width number : ℕ) (p q : Record) → 11 ≤ length p → 11 ≤ length q
-    → bad_problem width (too_long number p) ≡ bad_problem width (too_long number q)
-same_words width number p q one other =
-    ap (λ (t : List ℕ). with_text number (t ++ (codes " and not " ++ decimal width)))
-    (many_fields (length p) one ∙ sym (many_fields (length q) other))
+quoting : (width n : ℕ) → width ≤ 10 → 11 ≤ n → quoting_text width n ≡ codes "; quote a field that has a comma: \"SYS,IO\""
+quoting width n low many =
+    let more : nat_lt width n ≡ true = grind (arith, nat_tests, low, many) in
+    rw more refl
 
--- ---- the same is told of rows
+abbrev long_text : ℕ → List ℕ
+long_text width =
+    codes "it has more than 10 columns"
+    ++ (codes " and not " ++ (decimal width ++ codes "; quote a field that has a comma: \"SYS,IO\""))
+
+many_columns : (width n : ℕ) → width ≤ 10 → 11 ≤ n → columns_text width n ≡ long_text width
+many_columns width n low many =
+    ap (λ (t : List ℕ). t ++ (codes " and not " ++ (decimal width ++ quoting_text width n))) (many_fields n many)
+    ∙ ap (λ (t : List ℕ). codes "it has more than 10 columns" ++ (codes " and not " ++ (decimal width ++ t))) (quoting width n low many)
+
+same_words : (width number : ℕ) (p q : Record) → width ≤ 10 → 11 ≤ length p → 11 ≤ length q
+    → bad_problem width (too_long number p) ≡ bad_problem width (too_long number q)
+same_words width number p q low one other =
+    ap (λ (t : List ℕ). with_text number t)
+    (many_columns width (length p) low one ∙ sym (many_columns width (length q) low other))
+
+-- ---- the same is reported of rows
 
 module _ (width : ℕ) where
   abbrev SameProblems : List Bad → List Bad → Type 0
@@ -84,21 +99,21 @@ module _ (width : ℕ) where
     one_problem _ _ (bad_rows js) (bad_rows ks) refl more.3,
   )
 
-  one_long : (number : ℕ) (p q : Record) (m n : Result Row Why) → m ≡ Err why.Columns → n ≡ Err why.Columns → 11 ≤ length p → 11 ≤ length q
-      → (js ks : List Judged) → SameRows js ks
+  one_long : (number : ℕ) (p q : Record) (m n : Result Row Why) → width ≤ 10 → m ≡ Err why.Columns → n ≡ Err why.Columns
+      → 11 ≤ length p → 11 ≤ length q → (js ks : List Judged) → SameRows js ks
       → SameRows (record { number = number; fields = p; meaning = m } ∷ js) (record { number = number; fields = q; meaning = n } ∷ ks)
-  one_long number p q m n is_m is_n one other js ks more = rw (is_m, is_n) (
+  one_long number p q m n low is_m is_n one other js ks more = rw (is_m, is_n) (
     more.0,
     omega (arith, more.1),
     omega (arith, more.2),
-    one_problem (too_long number p) (too_long number q) (bad_rows js) (bad_rows ks) (same_words width number p q one other) more.3,
+    one_problem (too_long number p) (too_long number q) (bad_rows js) (bad_rows ks) (same_words width number p q low one other) more.3,
   )
 
   one_alike : (number : ℕ) (p q : Record) → width ≤ 10 → Same p q ⊎ Long p q → (js ks : List Judged) → SameRows js ks
       → SameRows (judged width number p ∷ js) (judged width number q ∷ ks)
   one_alike number p q low (inl same) js ks more = rw same.0 (one_same number q (row_of width number q) js ks more)
   one_alike number p q low (inr long) js ks more =
-      one_long number p q _ _ (not_fitting p width number low (omega (arith, long.0))) (not_fitting q width number low long.1)
+      one_long number p q _ _ low (not_fitting p width number low (omega (arith, long.0))) (not_fitting q width number low long.1)
       (omega (arith, long.0)) long.1 js ks more
 
   nothing : SameRows [] []

@@ -51,8 +51,8 @@ policy_so n (row ∷ more) p = go (after_row row p) (λ q. policy_so (n + 1) mor
 pub record Follows (all left : List Row) (number : ℕ) (r : Refused) : Type 0 where
   pub policy : policy_of_kept all no_policy ≡ policy_of_kept left r.policy
   pub count : length (refusals_of all) ≡ r.count + length (refusals_from number left r.policy)
-  pub problems : map refused_problem (take most_told (refusals_of all))
-      ≡ problems_of r.problems.items ++ map refused_problem (take (most_told - r.count) (refusals_from number left r.policy))
+  pub problems : map (refused_problem [] all) (take most_told (refusals_of all))
+      ≡ problems_of r.problems.items ++ map (refused_problem [] all) (take (most_told - r.count) (refusals_from number left r.policy))
 
 pub begins : (all : List Row) (r : Refused) → r.policy ≡ no_policy → r.count ≡ 0 → problems_of r.problems.items ≡ []
     → Follows all all 1 r
@@ -62,9 +62,9 @@ begins all r policy count problems = record {
   problems = rw (policy, count, problems) refl;
 }
 
-no_more : (before : List Problem) (n : ℕ) → before ++ map refused_problem (take n []) ≡ before
-no_more before zero = append-nil before
-no_more before (suc n) = append-nil before
+no_more : (all : List Row) (before : List Problem) (n : ℕ) → before ++ map (refused_problem [] all) (take n []) ≡ before
+no_more all before zero = append-nil before
+no_more all before (suc n) = append-nil before
 
 pub ends : (all left : List Row) (number : ℕ) (r : Refused) → Follows all left number r → left ≡ [] → IsRefused all r
 ends all left number r h none =
@@ -72,7 +72,7 @@ ends all left number r h none =
     record {
       policy = sym h2.policy;
       count = omega (arith, h2.count);
-      problems = sym (h2.problems ∙ no_more (problems_of r.problems.items) (most_told - r.count));
+      problems = sym (h2.problems ∙ no_more all (problems_of r.problems.items) (most_told - r.count));
     }
 
 count_step : (n : ℕ) (row : Row) (p : Policy) (taken : Result Policy Fault) (later : List Refusal)
@@ -80,7 +80,8 @@ count_step : (n : ℕ) (row : Row) (p : Policy) (taken : Result Policy Fault) (l
 count_step n row p (Ok q) later = omega arith
 count_step n row p (Err fault) later = omega arith
 
-problems_step : (what : Refusal → Problem) (before : List Problem) (number : ℕ) (row : Row) (p : Policy) (taken : Result Policy Fault) (later : List Refusal) (n : ℕ)
+problems_step : (what : Refusal → Problem) (before : List Problem) (number : ℕ) (row : Row) (p : Policy) (taken : Result Policy Fault)
+    (later : List Refusal) (n : ℕ)
     → before ++ map what (take n (with_refusal number row p taken later))
     ≡ (before ++ map what (take n (with_refusal number row p taken []))) ++ map what (take (n - length (with_refusal number row p taken [])) later)
 problems_step what before number row p (Ok q) later n = none_told what before later n
@@ -93,12 +94,12 @@ pub applies : (all left : List Row) (number : ℕ) (row : Row) (old new : Refuse
     → new.policy ≡ kept old.policy (after_row row old.policy)
     → new.count ≡ old.count + length (with_refusal number row old.policy (after_row row old.policy) [])
     → problems_of new.problems.items ≡ problems_of old.problems.items
-    ++ map refused_problem (take (most_told - old.count) (with_refusal number row old.policy (after_row row old.policy) []))
+    ++ map (refused_problem [] all) (take (most_told - old.count) (with_refusal number row old.policy (after_row row old.policy) []))
     → Follows all left (number + 1) new
 applies all left number row old new h policy count problems =
     let taken = after_row row old.policy in
     let later = refusals_from (number + 1) left (kept old.policy taken) in
-    let told = problems_step refused_problem (problems_of old.problems.items) number row old.policy taken later (most_told - old.count) in
+    let told = problems_step (refused_problem [] all) (problems_of old.problems.items) number row old.policy taken later (most_told - old.count) in
     let less : most_told - new.count ≡ (most_told - old.count) - length (with_refusal number row old.policy taken []) = omega (arith, count) in
     record {
       policy = rw policy h.policy;

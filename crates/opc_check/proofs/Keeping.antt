@@ -16,7 +16,8 @@ use Rattle.csv.specs.declared.parser.State.TheVariants as st
 use Rattle.csv.specs.declared.parser.Terminator.TheVariants as term
 use Rattle.opc_import.specs.Columns.{Record}
 use Rattle.opc_import.proofs.RecordLemmas.{fuel}
-use Rattle.opc_check.specs.Excess.{ended_after, ends_of, is_kept, kept}
+use Rattle.opc_import.specs.CsvBytes.{end_of}
+use Rattle.opc_check.specs.Excess.{ended_after, is_kept, kept}
 
 -- ---- within a record
 
@@ -171,7 +172,7 @@ ended_past c rest ten fields field t is long more =
 past_byte : (c : ℕ) (rest : List ℕ) (ten fields : Record) (field : List ℕ) → IsPast rest → (p : State × Action) → Goes c p
     → length ten ≡ 10 → 10 ≤ length fields
     → Alike (next_record default_config st.StartField ten []
-    (cond (is_kept (ends_of p.1) 10) (c ∷ kept p.0 (ended_after (ends_of p.1) 10) rest) (kept p.0 (ended_after (ends_of p.1) 10) rest)))
+    (cond (is_kept (end_of p.1) 10) (c ∷ kept p.0 (ended_after (end_of p.1) 10) rest) (kept p.0 (ended_after (end_of p.1) 10) rest)))
     (cond (is_end p.1) (Some (fields_after p.1 fields field, p.0, rest))
     (next_record default_config p.0 (fields_after p.1 fields field) (field_after p.1 c field) rest))
 past_byte c rest ten fields field later (t, act.EndRecord) (inl ends) long more = ended_past c rest ten fields field t ends.1 long more
@@ -211,8 +212,8 @@ field_alike rest t fields n more starts_it long few false e = more t fields [] (
 
 byte_alike : (c : ℕ) (rest : List ℕ) (fields : Record) (field : List ℕ) (n : ℕ) → IsAlike rest → length fields ≡ n → n < 10
     → (p : State × Action) → StartsField p
-    → Alike (cond (is_end p.1) (Some (fields_after p.1 fields field, p.0, kept p.0 (ended_after (ends_of p.1) n) rest))
-    (next_record default_config p.0 (fields_after p.1 fields field) (field_after p.1 c field) (kept p.0 (ended_after (ends_of p.1) n) rest)))
+    → Alike (cond (is_end p.1) (Some (fields_after p.1 fields field, p.0, kept p.0 (ended_after (end_of p.1) n) rest))
+    (next_record default_config p.0 (fields_after p.1 fields field) (field_after p.1 c field) (kept p.0 (ended_after (end_of p.1) n) rest)))
     (cond (is_end p.1) (Some (fields_after p.1 fields field, p.0, rest))
     (next_record default_config p.0 (fields_after p.1 fields field) (field_after p.1 c field) rest))
 byte_alike c rest fields field n more long few (t, act.EndRecord) on =
@@ -227,17 +228,17 @@ byte_alike c rest fields field n more long few (t, act.EndField) on =
     (field_alike rest t (fields ++ (field ∷ [])) n more (on refl) (omega (arith, one_field fields field, long)) few (n + 1 == 10) refl)
 
 -- a byte of the first ten fields is kept
-keeps : (a : Action) (n : ℕ) → n < 10 → is_kept (ends_of a) n ≡ true
+keeps : (a : Action) (n : ℕ) → n < 10 → is_kept (end_of a) n ≡ true
 keeps act.EndRecord n few = refl
 keeps act.EndField n few = grind (arith, nat_tests, few)
 keeps act.Skip n few = grind (arith, nat_tests, few)
 keeps act.Copy n few = grind (arith, nat_tests, few)
 
 kept_first : (s : State) (n c : ℕ) (rest : List ℕ) → n < 10
-    → kept s n (c ∷ rest) ≡ c ∷ kept (step default_config s c).0 (ended_after (ends_of (step default_config s c).1) n) rest
+    → kept s n (c ∷ rest) ≡ c ∷ kept (step default_config s c).0 (ended_after (end_of (step default_config s c).1) n) rest
 unfolding kept
 kept_first s n c rest few =
-    let more = kept (step default_config s c).0 (ended_after (ends_of (step default_config s c).1) n) rest in
+    let more = kept (step default_config s c).0 (ended_after (end_of (step default_config s c).1) n) rest in
     ap (λ (b : Bool). cond b (c ∷ more) more) (keeps (step default_config s c).1 n few)
 
 last_is : (b : Bool) (fields : Record) → length fields ≤ 10
@@ -284,9 +285,9 @@ all_alike (suc k) s xs = next_alike k (all_alike k) _ _ (alike xs s [] [] 0 refl
 shorter : (s : State) (n : ℕ) (xs : List ℕ) → length (kept s n xs) ≤ length xs
 unfolding kept
 shorter s n [] = omega arith
-shorter s n (c ∷ rest) = go (is_kept (ends_of (step default_config s c).1) n)
-    (kept (step default_config s c).0 (ended_after (ends_of (step default_config s c).1) n) rest)
-    (shorter (step default_config s c).0 (ended_after (ends_of (step default_config s c).1) n) rest)
+shorter s n (c ∷ rest) = go (is_kept (end_of (step default_config s c).1) n)
+    (kept (step default_config s c).0 (ended_after (end_of (step default_config s c).1) n) rest)
+    (shorter (step default_config s c).0 (ended_after (end_of (step default_config s c).1) n) rest)
   where
     go : (b : Bool) (ys : List ℕ) → length ys ≤ length rest → length (cond b (c ∷ ys) ys) ≤ length (c ∷ rest)
     go true ys h = omega (arith, h)
@@ -322,18 +323,18 @@ kept_few xs = few_alike _ (records default_config xs) (kept_alike xs)
 module _ (all now text : List ℕ) (s : State) (n at byte : ℕ) (low : at < length text) (is : byte ≡ get_or text at 0)
     (so_far : all ≡ now ++ kept s n (drop at text)) where
   abbrev later : List ℕ
-  later = kept (step default_config s byte).0 (ended_after (ends_of (step default_config s byte).1) n) (drop (at + 1) text)
+  later = kept (step default_config s byte).0 (ended_after (end_of (step default_config s byte).1) n) (drop (at + 1) text)
 
   here : kept s n (drop at text) ≡ kept s n (byte ∷ drop (at + 1) text)
   here = at_drop_more (kept s n) text at 0 low ∙ ap (λ b. kept s n (b ∷ drop (at + 1) text)) (sym is)
 
-  pub byte_kept : is_kept (ends_of (step default_config s byte).1) n ≡ true → all ≡ (now ++ byte ∷ []) ++ later
+  pub byte_kept : is_kept (end_of (step default_config s byte).1) n ≡ true → all ≡ (now ++ byte ∷ []) ++ later
   unfolding kept
   byte_kept keeps_it =
       so_far ∙ ap (λ t. now ++ t) (here ∙ ap (λ (b : Bool). cond b (byte ∷ later) later) keeps_it)
       ∙ sym (append_assoc now (byte ∷ []) later)
 
-  pub byte_left : is_kept (ends_of (step default_config s byte).1) n ≡ false → all ≡ now ++ later
+  pub byte_left : is_kept (end_of (step default_config s byte).1) n ≡ false → all ≡ now ++ later
   unfolding kept
   byte_left leaves_it = so_far ∙ ap (λ t. now ++ t) (here ∙ ap (λ (b : Bool). cond b (byte ∷ later) later) leaves_it)
 

@@ -12,7 +12,7 @@ use Rattle.opc_policy_members.specs.Taken.{after_row, has_group, has_holder, has
 use Rattle.opc_check.specs.Laws.{EndsWith, ObstaclesEndWithTheName}
 use Rattle.opc_check.specs.Problems.{obstacle_text}
 
--- if there is a fault, what is said ends with its name
+-- if there is a fault, the text ends with its name
 abbrev Ends : List ℕ → Result Policy Fault → Type 0
 Ends text (Ok p) = Unit {0}
 Ends text (Err (Exists name)) = EndsWith text name

@@ -9,7 +9,7 @@ module _ {X : Type 0} where
   take_none (suc n) = refl
 
   module _ {Y : Type 0} (what : X → Y) (before : List Y) where
-    -- nothing is told
+    -- nothing is reported
     pub none_told : (later : List X) (n : ℕ)
         → before ++ map what (take n later) ≡ (before ++ map what (take n [])) ++ map what (take (n - 0) later)
     none_told later n =
@@ -19,7 +19,7 @@ module _ {X : Type 0} where
     pub nothing_told : (n : ℕ) → before ++ map what (take n []) ≡ before
     nothing_told n = rw (take_none n) (append-nil before)
 
-    -- one thing alone is told, or not
+    -- one thing alone is reported, or not
     pub told_alone : (one : X) (n : ℕ) → 0 < n → before ++ map what (take n (one ∷ [])) ≡ before ++ what one ∷ []
     told_alone one zero room = absurd (omega (arith, room))
     told_alone one (suc n) room = rw (take_none n) refl
@@ -27,7 +27,7 @@ module _ {X : Type 0} where
     pub no_room : (one : X) (n : ℕ) → n ≡ 0 → before ++ map what (take n (one ∷ [])) ≡ before
     no_room one n none = rw none (append-nil before)
 
-    -- one thing is told, if there is room for it
+    -- one thing is reported, if there is room for it
     pub one_told : (one : X) (later : List X) (n : ℕ)
         → before ++ map what (take n (one ∷ later))
         ≡ (before ++ map what (take n (one ∷ []))) ++ map what (take (n - 1) later)
@@ -36,7 +36,7 @@ module _ {X : Type 0} where
         let less : suc n - 1 ≡ n = omega arith in
         rw (less, take_none n) (sym (append_assoc before (what one ∷ []) (map what (take n later))))
 
-  -- and added to what was told before
+  -- and added to what was reported before
   pub told_more : {P Y : Type 0} (what : X → Y) (name : P → Y) (old : List P) (p : P) (one : X) (n : ℕ) → 0 < n → name p ≡ what one
       → map name (old ++ p ∷ []) ≡ map name old ++ map what (take n (one ∷ []))
   told_more what name old p one n room same =

@@ -1,5 +1,5 @@
 -- The last line of a check, and the one line of a file that cannot be judged row by row.
-use Rattle.std.specs.Prelude.{◌++◌, ◌==◌, ℕ, List, [], ◌∷◌, codes, decimal, if◌then◌else◌}
+use Rattle.std.specs.Prelude.{◌++◌, ◌==◌, ℕ, List, [], ◌∷◌, None, codes, decimal, if◌then◌else◌}
 use Rattle.serde_json.specs.Data.{Data, member, no_members, null, number, object, unsigned}
 use Rattle.serde_json.specs.Written.{compact_text}
 use Rattle.opc_check.specs.Lines.{bad_value, row_line}
@@ -8,8 +8,8 @@ use Rattle.opc_check.specs.declared.form.Form.TheVariants as form
 
 -- a line about row 0, the header
 abbrev pub header_line : Form → List ℕ → List ℕ
-header_line form.Text text = row_line 0 text
-header_line form.Json text = compact_text (bad_value 0 null text) ++ 10 ∷ []
+header_line form.Text text = row_line 0 None text
+header_line form.Json text = compact_text (bad_value 0 None null text) ++ 10 ∷ []
 
 abbrev pub verb : ℕ → List ℕ
 verb n = if n == 1 then codes " is " else codes " are "

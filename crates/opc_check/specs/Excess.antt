@@ -2,33 +2,13 @@
 use Rattle.std.specs.Prelude.{ℕ, Bool, true, List, [], ◌∷◌, ◌+◌, Option, if◌then◌else◌, nat_lt}
 use Rattle.csv.specs.Machine.{step}
 use Rattle.csv.specs.Reading.{default_config}
-use Rattle.csv.specs.declared.parser.Action.{Action}
-use Rattle.csv.specs.declared.parser.Action.TheVariants as action
 use Rattle.csv.specs.declared.parser.State.{State}
-use Rattle.csv.specs.declared.parser.State.TheVariants as state
-use Rattle.opc_check.specs.declared.excess.ByteEnd.{ByteEnd}
-use Rattle.opc_check.specs.declared.excess.ByteEnd.TheVariants as end
-use Rattle.opc_check.specs.declared.excess.BytePlace.{BytePlace}
-use Rattle.opc_check.specs.declared.excess.BytePlace.TheVariants as place
+use Rattle.opc_import.specs.CsvBytes.{end_of}
+use Rattle.opc_import.specs.declared.csv_bytes.ByteEnd.{ByteEnd}
+use Rattle.opc_import.specs.declared.csv_bytes.ByteEnd.TheVariants as end
 use Rattle.opc_check.specs.declared.reading.Reading.{Reading}
 use Rattle.opc_check.specs.Judged.{file_of}
 use Rattle.opc_check.specs.Problems.{IsReadingOf}
-
--- the state in which `csv` reads a byte at a place
-abbrev pub state_of : BytePlace → State
-state_of place.RecordStart = state.StartRecord
-state_of place.AfterReturn = state.AfterCr
-state_of place.FieldStart = state.StartField
-state_of place.Plain = state.InField
-state_of place.Quoted = state.InQuoted
-state_of place.AfterQuote = state.AfterQuote
-
--- what ends with a byte, by what `csv` does with it
-abbrev pub ends_of : Action → ByteEnd
-ends_of action.Skip = end.Nothing
-ends_of action.Copy = end.Nothing
-ends_of action.EndField = end.Field
-ends_of action.EndRecord = end.Record
 
 -- a byte is kept if it ends its record, or stands in one of the first ten fields
 abbrev pub is_kept : ByteEnd → ℕ → Bool
@@ -45,9 +25,9 @@ ended_after end.Nothing ended = ended
 unfoldable pub kept : State → ℕ → List ℕ → List ℕ
 kept s ended [] = []
 kept s ended (byte ∷ rest) =
-    if is_kept (ends_of (step default_config s byte).1) ended
-    then byte ∷ kept (step default_config s byte).0 (ended_after (ends_of (step default_config s byte).1) ended) rest
-    else kept (step default_config s byte).0 (ended_after (ends_of (step default_config s byte).1) ended) rest
+    if is_kept (end_of (step default_config s byte).1) ended
+    then byte ∷ kept (step default_config s byte).0 (ended_after (end_of (step default_config s byte).1) ended) rest
+    else kept (step default_config s byte).0 (ended_after (end_of (step default_config s byte).1) ended) rest
 
 -- What is read of one text is what is read of the other.
 abbrev pub AreToldAlike : (part whole : List ℕ) → Type 0

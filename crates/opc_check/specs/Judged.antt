@@ -46,7 +46,7 @@ abbrev pub with_good : Result Row Why → List Row → List Row
 with_good (Ok row) rows = row ∷ rows
 with_good (Err why) rows = rows
 
--- the rows that read
+-- the rows that can be read
 abbrev pub good_rows : List Judged → List Row
 good_rows [] = []
 good_rows (row ∷ more) = with_good row.meaning (good_rows more)
@@ -61,7 +61,7 @@ abbrev pub with_bad : ℕ → Record → Result Row Why → List Bad → List Ba
 with_bad number fields (Ok row) bad = bad
 with_bad number fields (Err why) bad = record { number = number; fields = fields; why = why } ∷ bad
 
--- those that do not
+-- those that cannot
 abbrev pub bad_rows : List Judged → List Bad
 bad_rows [] = []
 bad_rows (row ∷ more) = with_bad row.number row.fields row.meaning (bad_rows more)

@@ -1,4 +1,4 @@
--- What judging and applying each row has to do with reading the file, and with its faults.
+-- How judging and applying each row agrees with reading the file, and with its faults.
 use Rattle.std.specs.Prelude.{◌≡◌, ◌++◌, ℕ, List, [], ◌∷◌, Option, Some, None, Result, Ok, Err}
 use Rattle.opc_terms.specs.declared.fault.Fault.TheVariants.{Exists, Missing}
 use Rattle.opc_terms.specs.declared.fault.Why.TheVariants as why

@@ -2,9 +2,12 @@ pub mod Escape
 pub mod Excess
 pub mod Judged
 pub mod Laws
+pub mod NearNames
 pub mod Problems
+pub mod RowLines
 pub mod Lines
 pub mod Words
 pub mod Refusals
 pub mod Checked
 pub mod Counted
+pub mod Unread

@@ -1,4 +1,4 @@
--- What is wrong with rows: those that do not read, and those that are refused.
+-- What is wrong with rows: those that cannot be read, and those that are refused.
 use Rattle.std.specs.Prelude.{
   ◌≡◌,
   ◌++◌,
@@ -25,6 +25,8 @@ use Rattle.opc_policy_members.specs.declared.row.Row.{Row}
 use Rattle.opc_policy_members.specs.declared.row.Row.TheVariants as rows
 use Rattle.opc_policy_members.specs.Profiles.{profile_of}
 use Rattle.opc_policy_members.specs.Taken.{has_user, no_policy}
+use Rattle.opc_cli_commands.specs.Hints.{question}
+use Rattle.opc_check.specs.NearNames.{near_name}
 use Rattle.opc_check.specs.Judged.{Bad, File, bad_rows, good_rows}
 use Rattle.opc_check.specs.Refusals.{Refusal, policy_of_kept, refusals_of}
 use Rattle.opc_check.specs.Words.{bad_text}
@@ -66,16 +68,20 @@ obstacle_text p (rows.Permit class pattern id level when) =
     if is_some (profile_of p.profiles class pattern) then codes "no user or group " ++ id
     else codes "no profile " ++ (class_text class ++ (codes " " ++ pattern))
 
--- of a row that is refused
-abbrev pub refused_problem : Refusal → Problem
-refused_problem r = record { number = r.number; fault = r.fault; text = obstacle_text r.policy r.row }
+-- of a row that is refused among others, over rows that are stored: what is in its way, and the name that it may mean
+abbrev pub refused_problem : (stored rows : List Row) → Refusal → Problem
+refused_problem stored rows r = record {
+  number = r.number;
+  fault = r.fault;
+  text = obstacle_text r.policy r.row ++ question (near_name r.policy stored rows r.row);
+}
 
--- how many problems are told at most
+-- the most problems that are reported
 abbrev pub most_told : ℕ
 most_told = 100
 
--- What was read of a file: the rows that read, how many were judged, how many are bad, and what is wrong with the first
--- of these.
+-- What was read of a file: the rows that can be read, how many were judged, how many are bad, and what is wrong with
+-- the first of these.
 pub record IsReading (file : File) (r : Reading) : Type 0 where
   pub rows : r.rows.items ≡ good_rows file.rows
   pub judged : r.judged ≡ length file.rows
@@ -93,7 +99,7 @@ IsReadingOf (Some file) None = ⊥
 pub record IsRefused (rows : List Row) (r : Refused) : Type 0 where
   pub policy : r.policy ≡ policy_of_kept rows no_policy
   pub count : r.count ≡ length (refusals_of rows)
-  pub problems : problems_of r.problems.items ≡ map refused_problem (take most_told (refusals_of rows))
+  pub problems : problems_of r.problems.items ≡ map (refused_problem [] rows) (take most_told (refusals_of rows))
 
 abbrev pub first_of : ℕ → List Bad → Option Problem
 first_of width [] = None

@@ -45,7 +45,7 @@ abbrev pub IsTaken : Row → Policy → Policy → Option Fault → Type 0
 IsTaken row old new None = after_row row old ≡ Ok new
 IsTaken row old new (Some fault) = (after_row row old ≡ Err fault) × (new ≡ old)
 
--- what its fault is told of, if it has one
+-- what its fault is about, if it has one
 abbrev pub refusal_by : ℕ → Row → Policy → Option Fault → List Refusal
 refusal_by number row p None = []
 refusal_by number row p (Some fault) = record { number = number; row = row; policy = p; fault = fault } ∷ []

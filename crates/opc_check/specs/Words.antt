@@ -30,7 +30,7 @@ use Rattle.opc_import.specs.declared.kind.Kind.{Kind}
 use Rattle.opc_import.specs.declared.kind.Kind.TheVariants as kind
 use Rattle.opc_check.specs.Escape.{is_unprintable}
 
--- the column whose field is bad, if it is that of one column
+-- the column whose field is bad, if only one is
 abbrev pub column_of : Why → Option Column
 column_of why.Header = None
 column_of why.Columns = None
@@ -51,24 +51,24 @@ abbrev pub misfit : Column → Kind → Option (List ℕ)
 misfit column.Class kind.Class = Some (codes "is neither CONSOLE nor OPERCMDS")
 misfit column.Class kind.Profile = Some (codes "is neither CONSOLE nor OPERCMDS")
 misfit column.Class kind.Permit = Some (codes "is neither CONSOLE nor OPERCMDS")
-misfit column.Name kind.User = Some (codes "is no user's name")
-misfit column.Name kind.Connect = Some (codes "is no user's name")
-misfit column.Name kind.Group = Some (codes "is no group's name")
-misfit column.Name kind.Console = Some (codes "is no console's name")
-misfit column.Name kind.Profile = Some (codes "is no profile's pattern")
-misfit column.Name kind.Permit = Some (codes "is no profile's pattern")
-misfit column.Id kind.Connect = Some (codes "is no group's name")
+misfit column.Name kind.User = Some (codes "is not a valid user name")
+misfit column.Name kind.Connect = Some (codes "is not a valid user name")
+misfit column.Name kind.Group = Some (codes "is not a valid group name")
+misfit column.Name kind.Console = Some (codes "is not a valid console name")
+misfit column.Name kind.Profile = Some (codes "is not a valid pattern")
+misfit column.Name kind.Permit = Some (codes "is not a valid pattern")
+misfit column.Id kind.Connect = Some (codes "is not a valid group name")
 misfit column.Id kind.Permit = Some (codes "is neither * nor the name of a user or group")
 misfit column.Value kind.Class = Some (codes "is neither ACTIVE nor INACTIVE")
-misfit column.Value kind.Console = Some (codes "is no authority")
-misfit column.Value kind.Profile = Some (codes "is no level")
-misfit column.Value kind.Permit = Some (codes "is no level")
-misfit column.Owner kind.Profile = Some (codes "is no user's name")
-misfit column.Flags kind.User = Some (codes "are not some of S, A and R, in this order")
+misfit column.Value kind.Console = Some (codes "is not a valid authority")
+misfit column.Value kind.Profile = Some (codes "is not a valid level")
+misfit column.Value kind.Permit = Some (codes "is not a valid level")
+misfit column.Owner kind.Profile = Some (codes "is not a valid user name")
+misfit column.Flags kind.User = Some (codes "must be any of S, A and R, in this order")
 misfit column.Flags kind.Console = Some (codes "are neither OPTIONAL, REQUIRED nor AUTO")
 misfit column.Flags kind.Profile = Some (codes "are neither empty nor W")
 misfit column.Digest kind.User = Some (codes "is not 64 of the characters 0 to 9 and a to f")
-misfit column.When kind.Permit = Some (codes "is no console's name")
+misfit column.When kind.Permit = Some (codes "is not a valid console name")
 misfit column.Restricted kind.User = Some (codes "is neither empty nor Y")
 misfit column kind = None
 
@@ -94,7 +94,7 @@ start_within room (c ∷ more) =
 unfoldable pub quoted_start : List ℕ → List ℕ
 quoted_start text = 34 ∷ start_within most_shown (chars text)
 
--- a digest that does not read may be a password, so only its length is shown
+-- an invalid digest may be a password, so only its length is shown
 abbrev pub length_text : ℕ → List ℕ
 length_text count =
     if count == 1 then codes "it has 1 character" else codes "it has " ++ (decimal count ++ codes " characters")
@@ -119,15 +119,20 @@ abbrev pub field_text : Column → Record → List ℕ
 field_text column fields =
     kind_misfit column (kind_of fields) ++ (codes ": " ++ shown_field column (field_in column fields))
 
--- that a record has not as many fields as the header
+-- a record does not have as many fields as the header
 abbrev pub count_text : ℕ → List ℕ
 count_text count =
     if count == 1 then codes "it has 1 column"
     else if nat_lt 10 count then codes "it has more than 10 columns"
     else codes "it has " ++ (decimal count ++ codes " columns")
 
-abbrev pub columns_text : ℕ → ℕ → List ℕ
-columns_text width count = count_text count ++ (codes " and not " ++ decimal width)
+-- A record with too many columns may have an authority that is not quoted.
+abbrev pub quoting_text : (width count : ℕ) → List ℕ
+quoting_text width count = if nat_lt width count then codes "; quote a field that has a comma: \"SYS,IO\"" else []
+
+abbrev pub columns_text : (width count : ℕ) → List ℕ
+columns_text width count =
+    count_text count ++ (codes " and not " ++ (decimal width ++ quoting_text width count))
 
 abbrev pub whole_text : ℕ → Record → Why → List ℕ
 whole_text width fields why.Many = codes "there are more than 10,000 rows"

@@ -14,8 +14,8 @@ pub fn header_line(alloc: Global, form: Form, text: &str) -> Result<String, Allo
     ensures { IfOk result (λ line. string_bytes line ≡ header_line form text.now) }
 {
     match form {
-        Form::Text => row_line(alloc, 0, text),
-        Form::Json => bad_object(alloc, 0, None, text),
+        Form::Text => row_line(alloc, 0, None, text),
+        Form::Json => bad_object(alloc, 0, None, None, text),
     }
 }
 

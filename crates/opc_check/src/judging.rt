@@ -21,7 +21,7 @@ fn judge_each(alloc: Global, mut each: EachRecord<'_>) -> Result<Reading, AllocE
       rows = judged_from each.entry.width 1 each.entry.records;
     })) }
 {
-    // Named for the prover, which else does not find the type of a row's console.
+    // Named for the prover, which otherwise cannot infer the type of a row's console.
     let _nowhere: Option<ConsoleName> = None;
     let width = each.width;
     let mut reading = Reading::new(alloc);
@@ -54,8 +54,8 @@ fn judge_all(alloc: Global, text: &str) -> Result<Option<Reading>, AllocError>
     judge_below(alloc, each)
 }
 
-/// Judges each row of a policy file by itself; a text without a header has no rows to judge. No record takes more memory
-/// than its first ten fields.
+/// Judges each row of a policy file by itself; a text without a header has no rows to judge. No record takes more
+/// memory than its first ten fields.
 pub fn judge(alloc: Global, text: &str) -> Result<Option<Reading>, AllocError>
     ensures { IfOk result (IsReadingOf (file_of text.now)) }
 {
@@ -80,7 +80,8 @@ fn first_of(reading: Reading) -> Option<RowProblem>
     Some(problems.remove(0))
 }
 
-/// The first bad row of a policy file, if the text has a header and a bad row.
+/// The first bad row of a policy file, if the text has a header and a bad row. `read_policy` returns a number and a
+/// column alone, so this reads the record again, to show the field to whoever must mend it.
 pub fn first_bad(alloc: Global, text: &str) -> Result<Option<RowProblem>, AllocError>
     ensures { IfOk result (λ found. option_map problem_of found ≡ first_bad (file_of text.now)) }
 {

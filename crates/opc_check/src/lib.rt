@@ -1,4 +1,5 @@
-//! What is bad in a policy file, in words: rows that do not read, and rows that would be refused.
+//! What is bad in a policy file, in words: rows that cannot be read, and rows that would be refused. This stands below
+//! the machine, so that a failure of the program can hold it.
 #![tactic(auto)]
 
 pub mod checked;
@@ -9,11 +10,14 @@ pub mod form;
 mod judging;
 pub mod laws;
 mod lines;
+mod near_names;
 mod obstacle;
 pub mod problem;
 mod quoted;
 pub mod reading;
 pub mod refusing;
+pub mod row_lines;
+pub mod unread;
 mod words;
 
 pub use crate::checked::{Checked, check};

@@ -7,6 +7,7 @@ ghost use Rattle.opc_check.specs.Lines.{
   bad_value,
   field_value,
   line_by,
+  line_value,
   problem_line,
   problem_lines,
   refused_value,
@@ -18,6 +19,7 @@ ghost use Rattle.opc_check.specs.declared.form.Form.TheVariants as form_is;
 
 use crate::form::Form;
 use crate::problem::RowProblem;
+use crate::row_lines::{line_of, row_place};
 use crate::words::column_of;
 use opc_import::column::Column;
 use opc_terms::fault::{Fault, Why};
@@ -25,35 +27,71 @@ use serde_json::{Value, json};
 use std::alloc::{AllocError, Global};
 
 /// A line about a row, for people.
-pub(crate) fn row_line(alloc: Global, row: u64, text: &str) -> Result<String, AllocError>
-    ensures { IfOk result (λ line. string_bytes line ≡ row_line row text.now) }
+pub(crate) fn row_line(
+    alloc: Global,
+    row: u64,
+    line: Option<u64>,
+    text: &str,
+) -> Result<String, AllocError>
+    ensures { IfOk result (λ made. string_bytes made ≡ row_line row line text.now) }
 {
-    format!(in alloc; "row {row}: {text}\n")
+    let place = row_place(alloc, row, line)?;
+    format!(in alloc; "{place}: {text}\n")
 }
 
-fn coded_line(alloc: Global, row: u64, code: &str, text: &str) -> Result<String, AllocError>
-    ensures { IfOk result (λ line. string_bytes line ≡ row_line row (code.now ++ (codes " " ++ text.now))) }
+fn coded_line(
+    alloc: Global,
+    row: u64,
+    line: Option<u64>,
+    code: &str,
+    text: &str,
+) -> Result<String, AllocError>
+    ensures { IfOk result (λ made. string_bytes made ≡ row_line row line (code.now ++ (codes " " ++ text.now))) }
 {
     let told = format!(in alloc; "{code} {text}")?;
-    row_line(alloc, row, told.as_str())
+    row_line(alloc, row, line, told.as_str())
 }
 
-fn field_value(alloc: Global, row: u64, field: &str, text: &str) -> Result<Value, AllocError>
-    ensures { IfOk result (λ value. view value ≡ bad_value row (string field.now) text.now) }
+fn line_value(line: Option<u64>) -> Value
+    ensures { view result ≡ line_value line }
 {
-    json!(in alloc; {"code": "E60", "field": field, "row": row, "text": text})
+    match line {
+        Some(line) => Value::from(line),
+        None => Value::Null,
+    }
 }
 
-fn row_value(alloc: Global, row: u64, text: &str) -> Result<Value, AllocError>
-    ensures { IfOk result (λ value. view value ≡ bad_value row null text.now) }
+fn field_value(
+    alloc: Global,
+    row: u64,
+    line: Option<u64>,
+    field: &str,
+    text: &str,
+) -> Result<Value, AllocError>
+    ensures { IfOk result (λ value. view value ≡ bad_value row line (string field.now) text.now) }
 {
-    json!(in alloc; {"code": "E60", "field": null, "row": row, "text": text})
+    let line = line_value(line);
+    json!(in alloc; {"code": "E60", "field": field, "line": line, "row": row, "text": text})
 }
 
-fn refused_value(alloc: Global, row: u64, code: &str, text: &str) -> Result<Value, AllocError>
-    ensures { IfOk result (λ value. view value ≡ refused_value code.now row text.now) }
+fn row_value(alloc: Global, row: u64, line: Option<u64>, text: &str) -> Result<Value, AllocError>
+    ensures { IfOk result (λ value. view value ≡ bad_value row line null text.now) }
 {
-    json!(in alloc; {"code": code, "row": row, "text": text})
+    let line = line_value(line);
+    json!(in alloc; {"code": "E60", "field": null, "line": line, "row": row, "text": text})
+}
+
+fn refused_value(
+    alloc: Global,
+    row: u64,
+    line: Option<u64>,
+    code: &str,
+    text: &str,
+) -> Result<Value, AllocError>
+    ensures { IfOk result (λ value. view value ≡ refused_value code.now row line text.now) }
+{
+    let line = line_value(line);
+    json!(in alloc; {"code": code, "line": line, "row": row, "text": text})
 }
 
 /// An object in a line of its own.
@@ -70,22 +108,29 @@ pub(crate) fn value_line(alloc: Global, value: &Value) -> Result<String, AllocEr
 pub(crate) fn bad_object(
     alloc: Global,
     row: u64,
+    line: Option<u64>,
     column: Option<Column>,
     text: &str,
 ) -> Result<String, AllocError>
-    ensures { IfOk result (λ line. string_bytes line
-        ≡ compact_text (bad_value row (field_value column) text.now) ++ 10 ∷ []) }
+    ensures { IfOk result (λ made. string_bytes made
+        ≡ compact_text (bad_value row line (field_value column) text.now) ++ 10 ∷ []) }
 {
     match column {
-        Some(column) => value_line(alloc, &field_value(alloc, row, column.name(), text)?),
-        None => value_line(alloc, &row_value(alloc, row, text)?),
+        Some(column) => value_line(alloc, &field_value(alloc, row, line, column.name(), text)?),
+        None => value_line(alloc, &row_value(alloc, row, line, text)?),
     }
 }
 
-fn refused_object(alloc: Global, row: u64, code: &str, text: &str) -> Result<String, AllocError>
-    ensures { IfOk result (λ line. string_bytes line ≡ line_by form_is.Json row code.now text.now None) }
+fn refused_object(
+    alloc: Global,
+    row: u64,
+    line: Option<u64>,
+    code: &str,
+    text: &str,
+) -> Result<String, AllocError>
+    ensures { IfOk result (λ made. string_bytes made ≡ line_by form_is.Json row line code.now text.now None) }
 {
-    value_line(alloc, &refused_value(alloc, row, code, text)?)
+    value_line(alloc, &refused_value(alloc, row, line, code, text)?)
 }
 
 fn why_of(fault: &Fault) -> Option<Why>
@@ -98,30 +143,37 @@ fn why_of(fault: &Fault) -> Option<Why>
     }
 }
 
-fn problem_line(alloc: Global, form: Form, problem: &RowProblem) -> Result<String, AllocError>
-    ensures { IfOk result (λ line. string_bytes line ≡ problem_line form (problem_of problem.now)) }
+fn problem_line(
+    alloc: Global,
+    form: Form,
+    lines: &[u64],
+    problem: &RowProblem,
+) -> Result<String, AllocError>
+    ensures { IfOk result (λ made. string_bytes made ≡ problem_line form lines.now (problem_of problem.now)) }
 {
     let (row, code, text) = (problem.number, problem.fault.code(), problem.text.as_str());
+    let line = line_of(lines, row);
     match (form, why_of(&problem.fault)) {
-        (Form::Text, Some(_)) => row_line(alloc, row, text),
-        (Form::Text, None) => coded_line(alloc, row, code, text),
-        (Form::Json, Some(why)) => bad_object(alloc, row, column_of(why), text),
-        (Form::Json, None) => refused_object(alloc, row, code, text),
+        (Form::Text, Some(_)) => row_line(alloc, row, line, text),
+        (Form::Text, None) => coded_line(alloc, row, line, code, text),
+        (Form::Json, Some(why)) => bad_object(alloc, row, line, column_of(why), text),
+        (Form::Json, None) => refused_object(alloc, row, line, code, text),
     }
 }
 
-/// A line for each problem.
+/// A line for each problem of rows that begin on these lines of their file.
 pub(crate) fn problem_lines(
     alloc: Global,
     form: Form,
+    lines: &[u64],
     problems: &[RowProblem],
 ) -> Result<String, AllocError>
-    ensures { IfOk result (λ lines. string_bytes lines ≡ problem_lines form (problems_of problems.now)) }
+    ensures { IfOk result (λ made. string_bytes made ≡ problem_lines form lines.now (problems_of problems.now)) }
 {
-    let mut lines = String::new(alloc);
+    let mut told = String::new(alloc);
     for problem in problems {
-        let line = problem_line(alloc, form, problem)?;
-        lines.push_str(line.as_str())?;
+        let line = problem_line(alloc, form, lines, problem)?;
+        told.push_str(line.as_str())?;
     }
-    Ok(lines)
+    Ok(told)
 }

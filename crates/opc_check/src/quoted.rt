@@ -26,7 +26,7 @@ fn push_quoted(text: &mut String, character: char) -> Result<(), AllocError>
 
 /// The start of a field in quotes, with `..` if there is more of it.
 #[tactic(auto, unfolding(crate::specs::Words::quoted_start))]
-fn quoted_start(alloc: Global, field: &str) -> Result<String, AllocError>
+pub(crate) fn quoted_start(alloc: Global, field: &str) -> Result<String, AllocError>
     ensures { IfOk result (λ text. string_bytes text ≡ quoted_start field.now) }
 {
     let mut text = String::from_str(alloc, "\"")?;
@@ -59,12 +59,13 @@ fn length_text(alloc: Global, count: usize) -> Result<String, AllocError>
     }
 }
 
-/// What is shown of the field in a column. A digest that does not read may be a password, which nothing shows.
+/// What is shown of the field in a column. An invalid digest may be a password, which is never shown.
 pub(crate) fn shown_field(alloc: Global, column: Column, field: &str) -> Result<String, AllocError>
     ensures { IfOk result (λ text. string_bytes text ≡ shown_field column field.now) }
 {
     match column {
         Column::Digest => length_text(alloc, character_count(field)),
+        // No other field may be a password.
         _ => quoted_start(alloc, field),
     }
 }

@@ -25,10 +25,11 @@ use opc_policy_members::row::Row;
 use opc_terms::fault::Why;
 use std::alloc::{AllocError, Global};
 
-/// How many problems are told at most.
+/// The most problems that are reported.
 pub const MOST_TOLD: u32 = 100;
 
-/// The rows that read, how many rows were judged, how many of them are bad, and what is wrong with the first of these.
+/// The rows that can be read, how many rows were judged, how many of them are bad, and what is wrong with the first of
+/// these.
 #[derive(Drop)]
 pub struct Reading {
     pub rows: Vec<Row>,
@@ -74,7 +75,7 @@ impl Reading {
             ++ map (bad_problem width) (take (most_told - self.old.bad)
             (bad_rows (judged_as number (fields_of line.now) meaning ∷ [])))) }
     {
-        // Named for the prover, which else does not find the type of a row's console.
+        // Named for the prover, which otherwise cannot infer the type of a row's console.
         let _nowhere: Option<ConsoleName> = None;
         self.judged += 1;
         match meaning {
@@ -105,14 +106,14 @@ impl Reading {
               why = why;
             } ∷ []))) }
     {
-        // Named for the prover, which else does not find the type of a row's console.
+        // Named for the prover, which otherwise cannot infer the type of a row's console.
         let _nowhere: Option<ConsoleName> = None;
         self.tell(alloc, width, number, line, why)?;
         self.bad += 1;
         Ok(())
     }
 
-    /// Adds what is wrong with a bad row, unless that of enough is told.
+    /// Adds what is wrong with a bad row, unless enough are reported.
     #[tactic(auto, using(crate::proofs::Telling::told_alone, crate::proofs::Telling::no_room))]
     fn tell(
         &mut self,
@@ -132,7 +133,7 @@ impl Reading {
               why = why;
             } ∷ []))) }
     {
-        // Named for the prover, which else does not find the type of a row's console.
+        // Named for the prover, which otherwise cannot infer the type of a row's console.
         let _nowhere: Option<ConsoleName> = None;
         if self.bad >= MOST_TOLD {
             return Ok(());

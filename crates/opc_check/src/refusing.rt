@@ -1,4 +1,4 @@
-//! Rows applied one after another, with those left out that are refused.
+//! Rows applied one after another, without those that are refused.
 ghost use Rattle.std.specs.Prelude.{
   ◌≡◌,
   ◌+◌,
@@ -34,7 +34,7 @@ pub struct Refused {
     pub problems: Vec<RowProblem>,
 }
 
-/// Applies a row, and gives its fault if it is refused.
+/// Applies a row, and returns its fault if it is refused.
 fn take(policy: &mut Policy, alloc: Global, row: &Row) -> Result<Option<Fault>, AllocError>
     ensures { IfOk result (IsTaken row.now policy.old policy.new) }
 {
@@ -59,28 +59,36 @@ impl Refused {
     }
 
     /// Adds a row that was refused.
-    fn add(&mut self, alloc: Global, row: &Row, number: u64, fault: Fault) -> Result<(), AllocError>
+    fn add(
+        &mut self,
+        alloc: Global,
+        rows: &[Row],
+        row: &Row,
+        number: u64,
+        fault: Fault,
+    ) -> Result<(), AllocError>
         requires { self.old.count < 2 ^ 63 }
         ensures policy { OnOk result (self.new.policy ≡ self.old.policy) }
         ensures count { OnOk result (self.new.count ≡ self.old.count + 1) }
         ensures problems { OnOk result (problems_of self.new.problems.items ≡ problems_of self.old.problems.items
-            ++ map refused_problem (take (most_told - self.old.count) (record {
+            ++ map (refused_problem [] rows.now) (take (most_told - self.old.count) (record {
               number = number;
               row = row.now;
               policy = self.old.policy;
               fault = fault;
             } ∷ []))) }
     {
-        self.tell(alloc, row, number, fault)?;
+        self.tell(alloc, rows, row, number, fault)?;
         self.count += 1;
         Ok(())
     }
 
-    /// Adds what is wrong with it, unless that of enough is told.
+    /// Adds what is wrong with it, unless enough are reported.
     #[tactic(auto, using(crate::proofs::Telling::told_alone, crate::proofs::Telling::no_room))]
     fn tell(
         &mut self,
         alloc: Global,
+        rows: &[Row],
         row: &Row,
         number: u64,
         fault: Fault,
@@ -88,7 +96,7 @@ impl Refused {
         ensures policy { self.new.policy ≡ self.old.policy }
         ensures count { self.new.count ≡ self.old.count }
         ensures problems { OnOk result (problems_of self.new.problems.items ≡ problems_of self.old.problems.items
-            ++ map refused_problem (take (most_told - self.old.count) (record {
+            ++ map (refused_problem [] rows.now) (take (most_told - self.old.count) (record {
               number = number;
               row = row.now;
               policy = self.old.policy;
@@ -98,7 +106,7 @@ impl Refused {
         if self.count >= MOST_TOLD as usize {
             return Ok(());
         }
-        let problem = refusal(alloc, &self.policy, row, number, fault)?;
+        let problem = refusal(alloc, &self.policy, &[], rows, row, number, fault)?;
         self.problems.push(problem)?;
         Ok(())
     }
@@ -108,6 +116,7 @@ impl Refused {
     fn add_if(
         &mut self,
         alloc: Global,
+        rows: &[Row],
         row: &Row,
         number: u64,
         fault: Option<Fault>,
@@ -118,33 +127,39 @@ impl Refused {
         ensures count { OnOk result (self.new.count
             ≡ self.old.count + length (refusal_by number row.now self.old.policy fault)) }
         ensures problems { OnOk result (problems_of self.new.problems.items ≡ problems_of self.old.problems.items
-            ++ map refused_problem (take (most_told - self.old.count)
+            ++ map (refused_problem [] rows.now) (take (most_told - self.old.count)
             (refusal_by number row.now self.old.policy fault))) }
     {
         match fault {
-            Some(fault) => self.add(alloc, row, number, fault),
+            Some(fault) => self.add(alloc, rows, row, number, fault),
             None => Ok(()),
         }
     }
 
-    /// Applies a row, and adds it if it is refused.
-    fn apply(&mut self, alloc: Global, row: &Row, number: u64) -> Result<(), AllocError>
+    /// Applies one of the rows, and adds it if it is refused.
+    fn apply(
+        &mut self,
+        alloc: Global,
+        rows: &[Row],
+        row: &Row,
+        number: u64,
+    ) -> Result<(), AllocError>
         requires { self.old.count < 2 ^ 63 }
         ensures policy { OnOk result (self.new.policy ≡ kept self.old.policy (after_row row.now self.old.policy)) }
         ensures few { OnOk result (self.new.count ≤ self.old.count + 1) }
         ensures count { OnOk result (self.new.count ≡ self.old.count
             + length (with_refusal number row.now self.old.policy (after_row row.now self.old.policy) [])) }
         ensures problems { OnOk result (problems_of self.new.problems.items ≡ problems_of self.old.problems.items
-            ++ map refused_problem (take (most_told - self.old.count)
+            ++ map (refused_problem [] rows.now) (take (most_told - self.old.count)
             (with_refusal number row.now self.old.policy (after_row row.now self.old.policy) []))) }
     {
         let fault = take(&mut self.policy, alloc, row)?;
-        self.add_if(alloc, row, number, fault)?;
+        self.add_if(alloc, rows, row, number, fault)?;
         Ok(())
     }
 }
 
-/// What is refused of rows that are applied one after another as a first policy.
+/// Which rows are refused, if rows are applied one after another as a first policy.
 pub fn refused_of(alloc: Global, rows: &[Row]) -> Result<Refused, AllocError>
     ensures { IfOk result (IsRefused rows.now) }
 {
@@ -152,7 +167,7 @@ pub fn refused_of(alloc: Global, rows: &[Row]) -> Result<Refused, AllocError>
     let mut number = 0;
     for row in rows {
         number += 1;
-        refused.apply(alloc, row, number)?;
+        refused.apply(alloc, rows, row, number)?;
     }
     Ok(refused)
 }

@@ -2,7 +2,6 @@
 ghost use Rattle.std.specs.Prelude.{◌≡◌, IfOk, length, string_bytes};
 ghost use Rattle.std.specs.Option.{option_map};
 ghost use Rattle.csv.specs.Records.{fields_of};
-ghost use Rattle.opc_import.specs.Columns.{field_in};
 ghost use Rattle.opc_check.specs.Words.{
   bad_text,
   column_of,
@@ -13,18 +12,19 @@ ghost use Rattle.opc_check.specs.Words.{
   kind_of,
   misfit,
   misfit_text,
+  quoting_text,
   text_by,
   whole_text,
 };
 
 use crate::quoted::shown_field;
 use csv::StringRecord;
-use opc_import::column::{COLUMNS, Column};
+use opc_import::column::{COLUMNS, Column, field_in};
 use opc_import::kind::Kind;
 use opc_terms::fault::Why;
 use std::alloc::{AllocError, Global};
 
-/// The column whose field is bad, if it is that of one column.
+/// The column whose field is bad, if only one is.
 pub(crate) fn column_of(why: Why) -> Option<Column>
     ensures { result ≡ column_of why }
 {
@@ -43,26 +43,10 @@ pub(crate) fn column_of(why: Why) -> Option<Column>
     }
 }
 
-fn field_in(line: &StringRecord, column: Column) -> &str
-    ensures { result.now ≡ field_in column (fields_of line.now) }
-{
-    line.get(column as usize).unwrap_or("")
-}
-
 fn kind_of(line: &StringRecord) -> Option<Kind>
     ensures { result ≡ kind_of (fields_of line.now) }
 {
-    match field_in(line, Column::Kind) {
-        "class" => Some(Kind::Class),
-        "group" => Some(Kind::Group),
-        "user" => Some(Kind::User),
-        "connect" => Some(Kind::Connect),
-        "console" => Some(Kind::Console),
-        "profile" => Some(Kind::Profile),
-        "permit" => Some(Kind::Permit),
-        // No other text is a kind.
-        _ => None,
-    }
+    Kind::read(field_in(line, Column::Kind))
 }
 
 fn class_misfit(kind: Kind) -> Option<&'static str>
@@ -78,10 +62,10 @@ fn name_misfit(kind: Kind) -> Option<&'static str>
     ensures { option_map (λ text. text.now) result ≡ misfit Column.Name kind }
 {
     match kind {
-        Kind::User | Kind::Connect => Some("is no user's name"),
-        Kind::Group => Some("is no group's name"),
-        Kind::Console => Some("is no console's name"),
-        Kind::Profile | Kind::Permit => Some("is no profile's pattern"),
+        Kind::User | Kind::Connect => Some("is not a valid user name"),
+        Kind::Group => Some("is not a valid group name"),
+        Kind::Console => Some("is not a valid console name"),
+        Kind::Profile | Kind::Permit => Some("is not a valid pattern"),
         Kind::Class => None,
     }
 }
@@ -90,7 +74,7 @@ fn id_misfit(kind: Kind) -> Option<&'static str>
     ensures { option_map (λ text. text.now) result ≡ misfit Column.Id kind }
 {
     match kind {
-        Kind::Connect => Some("is no group's name"),
+        Kind::Connect => Some("is not a valid group name"),
         Kind::Permit => Some("is neither * nor the name of a user or group"),
         Kind::Class | Kind::Group | Kind::User | Kind::Console | Kind::Profile => None,
     }
@@ -101,8 +85,8 @@ fn value_misfit(kind: Kind) -> Option<&'static str>
 {
     match kind {
         Kind::Class => Some("is neither ACTIVE nor INACTIVE"),
-        Kind::Console => Some("is no authority"),
-        Kind::Profile | Kind::Permit => Some("is no level"),
+        Kind::Console => Some("is not a valid authority"),
+        Kind::Profile | Kind::Permit => Some("is not a valid level"),
         Kind::Group | Kind::User | Kind::Connect => None,
     }
 }
@@ -111,7 +95,7 @@ fn flags_misfit(kind: Kind) -> Option<&'static str>
     ensures { option_map (λ text. text.now) result ≡ misfit Column.Flags kind }
 {
     match kind {
-        Kind::User => Some("are not some of S, A and R, in this order"),
+        Kind::User => Some("must be any of S, A and R, in this order"),
         Kind::Console => Some("are neither OPTIONAL, REQUIRED nor AUTO"),
         Kind::Profile => Some("are neither empty nor W"),
         Kind::Class | Kind::Group | Kind::Connect | Kind::Permit => None,
@@ -122,7 +106,7 @@ fn owner_misfit(kind: Kind) -> Option<&'static str>
     ensures { option_map (λ text. text.now) result ≡ misfit Column.Owner kind }
 {
     match kind {
-        Kind::Profile => Some("is no user's name"),
+        Kind::Profile => Some("is not a valid user name"),
         Kind::Class | Kind::Group | Kind::User | Kind::Connect | Kind::Console | Kind::Permit => {
             None
         }
@@ -143,7 +127,7 @@ fn when_misfit(kind: Kind) -> Option<&'static str>
     ensures { option_map (λ text. text.now) result ≡ misfit Column.When kind }
 {
     match kind {
-        Kind::Permit => Some("is no console's name"),
+        Kind::Permit => Some("is not a valid console name"),
         Kind::Class | Kind::Group | Kind::User | Kind::Connect | Kind::Console | Kind::Profile => {
             None
         }
@@ -226,11 +210,23 @@ fn count_text(alloc: Global, count: usize) -> Result<String, AllocError>
     }
 }
 
+/// How a field is quoted, if a record has too many columns: an authority has commas.
+fn quoting_text(width: usize, count: usize) -> &'static str
+    ensures { result.now ≡ quoting_text width count }
+{
+    if count > width {
+        "; quote a field that has a comma: \"SYS,IO\""
+    } else {
+        ""
+    }
+}
+
 fn columns_text(alloc: Global, width: usize, count: usize) -> Result<String, AllocError>
     ensures { IfOk result (λ text. string_bytes text ≡ columns_text width count) }
 {
     let counted = count_text(alloc, count)?;
-    format!(in alloc; "{counted} and not {width}")
+    let quoting = quoting_text(width, count);
+    format!(in alloc; "{counted} and not {width}{quoting}")
 }
 
 /// What is wrong with a record as a whole.

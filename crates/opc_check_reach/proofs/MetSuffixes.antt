@@ -36,7 +36,7 @@ use Rattle.opc_names.specs.declared.token.Token.TheVariants.{Literal, Percent, S
 use Rattle.opc_names.specs.Patterns.{ends_in_star, is_empty}
 use Rattle.opc_names.specs.Walk.{any_from_here}
 use Rattle.opc_names.proofs.Stars.{BeginsOther}
-use Rattle.opc_check_reach.specs.declared.part.Part.{Part}
+use Rattle.opc_check_reach.specs.declared.part.FormPart.{FormPart}
 use Rattle.opc_check_reach.specs.Forms.{Qualifier, shape, form_suffixes, fits, meets, met_suffixes}
 
 -- what a qualifier other than `**` meets with those after it
@@ -67,7 +67,7 @@ prepended_part q p f fs old new last here b e g h k =
     cc
 
 -- the same of the parts as the code has them
-pub prepended_form : (q : List Token) (p : List (List Token)) (form : List Part) (d : Part) (old new : List Bool)
+pub prepended_form : (q : List Token) (p : List (List Token)) (form : List FormPart) (d : FormPart) (old new : List Bool)
     (last here : Bool) → 1 ≤ length form → BeginsOther q → last ≡ is_empty p → old ≡ met_suffixes p (map shape form)
     → new ≡ met_suffixes (q ∷ p) (map shape (drop 1 form))
     → here ≡ (fits q (shape (get_or form 0 d)) && (last && ends_in_star q || slice_index_or old 1 false))
@@ -76,7 +76,7 @@ prepended_form q p [] d old new last here some b e g h k = absurd (omega (arith,
 prepended_form q p (x ∷ form) d old new last here some b e g h k =
     prepended_part q p (shape x) (map shape form) old new last here b e g h k
 
-pub two_of_form : (p : List (List Token)) (form : List Part) (met : List Bool) → 1 ≤ length form → met ≡ met_suffixes p (map shape form)
+pub two_of_form : (p : List (List Token)) (form : List FormPart) (met : List Bool) → 1 ≤ length form → met ≡ met_suffixes p (map shape form)
     → 1 < length met
 two_of_form p [] met some e = absurd (omega (arith, some))
 two_of_form p (x ∷ form) met some e = rw e (two_suffixes p (shape x) (map shape form))
@@ -90,19 +90,19 @@ pub prepended_stars : (q : List Token) (p : List (List Token)) (fs : List Qualif
 prepended_stars q p [] = refl
 prepended_stars q p (f ∷ fs) = let here = any_met p (form_suffixes (f ∷ fs)) in let rest = prepended_stars q p fs in cc
 
--- no qualifier meets only the empty suffix
+-- without qualifiers, only the empty suffix is met
 nothing_is : (fs : List Qualifier) → met_suffixes [] fs ≡ replicate (length fs) false ++ true ∷ []
 nothing_is [] = refl
 nothing_is (f ∷ fs) = ap (λ bs. false ∷ bs) (nothing_is fs)
 
--- the places for the suffixes of a form, of which only the last is true, stand for no qualifier
+-- the places for the suffixes of a form, of which only the last is true, stand for a pattern without qualifiers
 nothing_prepended : (n : ℕ) (fs : List Qualifier) → length fs < n → take (length fs + 1) (slice_set (replicate n false) (length fs) true) ≡ met_suffixes [] fs
 nothing_prepended n fs h =
     let short : length fs < length (replicate n false) = rw length-replicate h in
     let few : length fs ≤ n = omega arith in
     take_more_set (replicate n false) (length fs) true short ∙ ap (λ bs. bs ++ true ∷ []) (take-replicate (length fs) n false few) ∙ sym (nothing_is fs)
 
-pub nothing_of_form : (form : List Part) → length form < 6
+pub nothing_of_form : (form : List FormPart) → length form < 6
     → take (length form + 1) (slice_set (replicate 6 false) (length form) true) ≡ met_suffixes [] (map shape form)
 nothing_of_form form h =
     let few : length (map shape form) < 6 = rw length-map h in

@@ -93,7 +93,7 @@ after_words (w ∷ ws) fs (s ∷ x) a =
     let more = after_words ws fs x a.1 in
     (more.0, more.1, ap (λ y. s ∷ y) more.2 ∙ ap (λ y. y ∷ (ws ++ more.0)) a.0)
 
--- what a pattern covers of the resources that are made so
+-- what a pattern covers of the resources that are made like this
 pub form_reached : (words : List ℕ) (fs : List Qualifier) (p : List (List Token)) → AllByRecursion IsAny fs → AllByRecursion IsGood p
     → meets p (form words fs) ≡ true → (resource : List ℕ) × Made words fs resource × Covers p (qualifiers resource)
 form_reached words fs p n g h =

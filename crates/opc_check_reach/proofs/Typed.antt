@@ -85,7 +85,7 @@ upper (c ∷ cs) h =
     let k = both (is_name_character c) (list_all is_name_character cs) h in
     ap (λ d. d ∷ folded cs) (upper_one c k.0) ∙ ap (λ ds. c ∷ ds) (upper cs k.1)
 
--- what has no space doesn't begin with one, nor end with one
+-- what has no space neither begins nor ends with one
 run_of : (xs : List ℕ) → list_all no_space xs ≡ true → prefix_len no_space xs ≡ length xs
 run_of [] h = refl
 run_of (c ∷ cs) h =

@@ -1,5 +1,6 @@
 -- The forms of the resources about which the gate asks, and which patterns meet one of them, computed. The public call
--- is about `IsMet` of Reach. The note N17 is computed by these forms; a law of opc_answers_laws says that it is the same.
+-- is about `IsMet` of Reach. The note N17 is computed by these forms; a law of opc_answers_laws states that both are
+-- the same.
 use Rattle.std.specs.Prelude.{
   ◌≡◌,
   ℕ,
@@ -29,8 +30,8 @@ use Rattle.opc_names.specs.declared.token.Token.{Token}
 use Rattle.opc_names.specs.declared.token.Token.TheVariants.{Literal, Percent, Star, Stars}
 use Rattle.opc_names.specs.Names.{name_fault, unit_rule, console_rule, qualifiers}
 use Rattle.opc_names.specs.Patterns.{matches, ends_in_star, is_empty}
-use Rattle.opc_check_reach.specs.declared.part.Part.{Part}
-use Rattle.opc_check_reach.specs.declared.part.Part.TheVariants as part
+use Rattle.opc_check_reach.specs.declared.part.FormPart.{FormPart}
+use Rattle.opc_check_reach.specs.declared.part.FormPart.TheVariants as part
 
 -- a qualifier of a resource, as it stands in a form: a fixed word, or any name of a unit or of a console
 pub data Qualifier : Type 0 where
@@ -38,13 +39,13 @@ pub data Qualifier : Type 0 where
   AnyUnit : Qualifier
   AnyConsole : Qualifier
 
-abbrev pub shape : Part → Qualifier
+abbrev pub shape : FormPart → Qualifier
 shape (part.Word text) = Word text.now
 shape part.AnyUnit = AnyUnit
 shape part.AnyConsole = AnyConsole
 
 -- forms as the code has them
-abbrev pub forms_of : List (Bor (List Part)) → List (List Qualifier)
+abbrev pub forms_of : List (Bor (List FormPart)) → List (List Qualifier)
 forms_of forms = map (λ form. map shape form.now) forms
 
 -- a form has at most five qualifiers

@@ -1,4 +1,4 @@
--- Which patterns are met, to those who write a policy.
+-- Which patterns are met, for those who write a policy.
 use Rattle.std.specs.Prelude.{◌≡◌, ℕ, List, [], ◌∷◌, codes}
 use Rattle.std.specs.List.{AllByRecursion}
 use Rattle.opc_names.specs.Names.{qualifiers}

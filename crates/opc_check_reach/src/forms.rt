@@ -6,11 +6,11 @@ ghost use Rattle.opc_names.specs.Patterns.{tokens};
 ghost use Rattle.opc_names.specs.Walk.{IsQualifier};
 ghost use Rattle.opc_check_reach.specs.Forms.{meets, form, forms_of, shape, IsShort, fixed_forms, named_forms};
 
-use crate::part::Part::{self, AnyConsole, AnyUnit, Word};
+use crate::part::FormPart::{self, AnyConsole, AnyUnit, Word};
 use crate::walk::meets;
 
 /// Whether a pattern covers some resource of one of the forms.
-fn meets_one(pattern: &[u8], forms: &[&[Part]]) -> bool
+fn meets_one(pattern: &[u8], forms: &[&[FormPart]]) -> bool
     requires qualifiers { AllByRecursion IsQualifier (qualifiers pattern.now) }
     requires short { AllByRecursion IsShort (forms_of forms.now) }
     ensures { result ≡ list_any (meets (map tokens (qualifiers pattern.now))) (forms_of forms.now) }
@@ -26,7 +26,7 @@ pub(crate) fn meets_fixed(pattern: &[u8]) -> bool
     requires { AllByRecursion IsQualifier (qualifiers pattern.now) }
     ensures { result ≡ list_any (meets (map tokens (qualifiers pattern.now))) fixed_forms }
 {
-    let forms: [&[Part]; 17] = [
+    let forms: [&[FormPart]; 17] = [
         &[Word("MVS"), Word("DISPLAY"), Word("JOB")],
         &[Word("MVS"), Word("DISPLAY"), Word("U")],
         &[Word("MVS"), Word("DISPLAY"), Word("CN")],
@@ -53,7 +53,7 @@ pub(crate) fn meets_named(pattern: &[u8]) -> bool
     requires { AllByRecursion IsQualifier (qualifiers pattern.now) }
     ensures { result ≡ list_any (meets (map tokens (qualifiers pattern.now))) named_forms }
 {
-    let forms: [&[Part]; 13] = [
+    let forms: [&[FormPart]; 13] = [
         &[Word("MVS"), Word("DISPLAY"), Word("JOB"), AnyUnit],
         &[Word("MVS"), Word("DISPLAY"), Word("CN"), AnyConsole],
         &[Word("MVS"), Word("CANCEL"), Word("JOB"), AnyUnit],

@@ -1,7 +1,7 @@
 //! Which profiles of class OPERCMDS decide nothing: their patterns cover no resource about which the gate asks. It asks
-//! about what commands need, and, for each line of an answer about a unit or a console, about what showing it needs.
-//! That these are the questions of the machine is a law of `opc_answers_laws`. A question about any other resource,
-//! as of `who`, decides nothing.
+//! about what commands need, and, for each line of an answer about a unit or a console, about what showing it needs. A
+//! law of `opc_answers_laws` states that these are the questions of the machine. A question about any other resource,
+//! such as one of `who`, decides nothing.
 #![tactic(auto)]
 
 mod forms;

@@ -15,7 +15,7 @@ const LONGEST: usize = 8;
 
 /// A fixed word, or any name of a unit (or of a user, by the same rule) or of a console.
 #[derive(Clone, Copy)]
-pub(crate) enum Part {
+pub(crate) enum FormPart {
     Word(&'static str),
     AnyUnit,
     AnyConsole,
@@ -60,7 +60,7 @@ fn begins_with_digit(qualifier: &[u8]) -> bool
     }
 }
 
-/// Whether a qualifier other than `**` leaves room for a text of at least so many characters, and at most eight.
+/// Whether a qualifier other than `**` matches some text of at least this many characters, and at most eight.
 fn has_room(qualifier: &[u8], least: usize) -> bool
     requires { StarOnlyLast qualifier.now }
     ensures { result ≡ has_room least (tokens qualifier.now) }
@@ -69,16 +69,16 @@ fn has_room(qualifier: &[u8], least: usize) -> bool
     count <= LONGEST && (ends_in_star(qualifier) || least <= count)
 }
 
-impl Part {
+impl FormPart {
     /// Whether a qualifier of a pattern other than `**` matches the word, or some name.
     pub(crate) fn fits(&self, qualifier: &[u8]) -> bool
         requires { StarOnlyLast qualifier.now }
         ensures { result ≡ fits (tokens qualifier.now) (shape self.now) }
     {
         match self {
-            Part::Word(word) => matches(qualifier, word.as_bytes()),
-            Part::AnyUnit => has_room(qualifier, 1),
-            Part::AnyConsole => has_room(qualifier, 2) && !begins_with_digit(qualifier),
+            FormPart::Word(word) => matches(qualifier, word.as_bytes()),
+            FormPart::AnyUnit => has_room(qualifier, 1),
+            FormPart::AnyConsole => has_room(qualifier, 2) && !begins_with_digit(qualifier),
         }
     }
 }

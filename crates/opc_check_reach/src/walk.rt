@@ -7,7 +7,7 @@ ghost use Rattle.opc_names.specs.Names.{qualifiers};
 ghost use Rattle.opc_names.specs.Walk.{StarOnlyLast, IsQualifier, qualifiers_left, any_from_here};
 ghost use Rattle.opc_check_reach.specs.Forms.{shape, fits, meets, met_suffixes};
 
-use crate::part::Part;
+use crate::part::FormPart;
 use crate::qualifier::{ends_in_star, is_stars, split_qualifier};
 
 /// The most suffixes of a form: it has at most five parts, and the empty suffix follows.
@@ -28,9 +28,9 @@ fn prepend_stars(met: &mut [bool]) -> bool
     any
 }
 
-/// Whether a qualifier other than `**` fits a part, and what follows it in the form is met: it is the last one and ends
-/// in `*`, or those after it meet that.
-fn meets_from(qualifier: &[u8], part: &Part, is_last: bool, meets_rest: bool) -> bool
+/// Whether a qualifier other than `**` fits a part, and the rest of the form is met: the qualifier is the last one and
+/// ends in `*`, or those after it meet the rest.
+fn meets_from(qualifier: &[u8], part: &FormPart, is_last: bool, meets_rest: bool) -> bool
     requires { StarOnlyLast qualifier.now }
     ensures { result
         ≡ (fits (tokens qualifier.now) (shape part.now)
@@ -40,8 +40,8 @@ fn meets_from(qualifier: &[u8], part: &Part, is_last: bool, meets_rest: bool) ->
 }
 
 /// Puts a qualifier other than `**` before the others of a pattern. `met` holds, for each suffix of a form, longest
-/// first, whether the others meet it, and then, whether all of them do.
-fn prepend_qualifier(qualifier: &[u8], others: Option<&[u8]>, form: &[Part], met: &mut [bool])
+/// first, whether the others meet it, and afterwards, whether all of them do.
+fn prepend_qualifier(qualifier: &[u8], others: Option<&[u8]>, form: &[FormPart], met: &mut [bool])
     requires plain { StarOnlyLast qualifier.now }
     requires others { met.old
         ≡ met_suffixes (map tokens (qualifiers_left (option_copied others))) (map shape form.now) }
@@ -60,7 +60,7 @@ fn prepend_qualifier(qualifier: &[u8], others: Option<&[u8]>, form: &[Part], met
 
 /// Puts what is left of a pattern before nothing, from its last qualifier to its first. So each qualifier is compared
 /// at most once with each part of the form.
-fn meet_suffixes(pattern: Option<&[u8]>, form: &[Part], met: &mut [bool])
+fn meet_suffixes(pattern: Option<&[u8]>, form: &[FormPart], met: &mut [bool])
     requires qualifiers { AllByRecursion IsQualifier (qualifiers_left (option_copied pattern)) }
     requires nothing { met.old ≡ met_suffixes [] (map shape form.now) }
     ensures { met.new
@@ -79,7 +79,7 @@ fn meet_suffixes(pattern: Option<&[u8]>, form: &[Part], met: &mut [bool])
 }
 
 /// Whether a pattern covers some resource of a form.
-pub(crate) fn meets(pattern: &[u8], form: &[Part]) -> bool
+pub(crate) fn meets(pattern: &[u8], form: &[FormPart]) -> bool
     requires qualifiers { AllByRecursion IsQualifier (qualifiers pattern.now) }
     requires few { length form.now < SUFFIXES }
     ensures { result ≡ meets (map tokens (qualifiers pattern.now)) (map shape form.now) }
@@ -87,7 +87,7 @@ pub(crate) fn meets(pattern: &[u8], form: &[Part]) -> bool
     // From the last qualifier to the first, this keeps which suffixes of the form the rest of the pattern meets.
     let mut met = [false; SUFFIXES];
 
-    // No qualifier meets nothing but the empty suffix, the last one.
+    // Without qualifiers, only the empty suffix is met, which is the last one.
     met[form.len()] = true;
     meet_suffixes(Some(pattern), form, &mut met[..=form.len()]);
     met[0]

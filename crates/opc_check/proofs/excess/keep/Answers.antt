@@ -1,5 +1,5 @@
 use Rattle.std.proofs.Common.{◌∙◌, arith, get_or, refl, sym}
-use Rattle.opc_check.specs.Excess.{state_of}
+use Rattle.opc_import.specs.CsvBytes.{state_of}
 use Rattle.opc_check.proofs.Keeping.{all_kept, byte_kept, byte_left}
 use Rattle.opc_check.proofs.excess.keep.Goals.{then-is_kept+in_ok-push, else-is_kept}
 use Rattle.opc_check.proofs.excess.keep.Goals as goal

@@ -1,6 +1,7 @@
 use Rattle.std.proofs.Common.{◌≡◌, ◌++◌, drop}
 use Rattle.csv.specs.declared.parser.State.TheVariants as st
-use Rattle.opc_check.specs.Excess.{kept, state_of}
+use Rattle.opc_import.specs.CsvBytes.{state_of}
+use Rattle.opc_check.specs.Excess.{kept}
 use Rattle.opc_check.proofs.excess.keep.Given as goal
 
 abbrev pub invariant-loop-byte : goal.invariant-loop-byte

@@ -10,5 +10,5 @@ pub returns : goal.returns
 returns c =
     let all = c.args.problems.now in
     let over : length all ≤ c.loop-problem.problem-index = omega arith in
-    c.loop-problem.invariant ∙ (ap (flat_map (λ problem. problem_line c.args.form (problem_of problem)))
-    (take_all c.loop-problem.problem-index all over) ∙ lines_of_map (problem_line c.args.form) problem_of all)
+    c.loop-problem.invariant ∙ (ap (flat_map (λ problem. problem_line c.args.form c.args.lines.now (problem_of problem)))
+    (take_all c.loop-problem.problem-index all over) ∙ lines_of_map (problem_line c.args.form c.args.lines.now) problem_of all)

@@ -5,5 +5,5 @@ use Rattle.opc_check.specs.Problems.{problem_of}
 use Rattle.opc_check.proofs.lines.problem_lines.Given as goal
 
 abbrev pub invariant-loop-problem : goal.invariant-loop-problem
-invariant-loop-problem l = string_bytes l.lines
-    ≡ flat_map (λ problem. problem_line l.form (problem_of problem)) (take l.problem-index l.problems)
+invariant-loop-problem l = string_bytes l.told
+    ≡ flat_map (λ problem. problem_line l.form l.lines (problem_of problem)) (take l.problem-index l.problems)

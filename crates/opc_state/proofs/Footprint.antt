@@ -54,7 +54,7 @@ same_name a b h = (bytes_eq-Decides a b).0 h
 module _ {R : Type 0} (cmp : R → R → Ordering) (total : IsTotalOrder cmp) (is_at is_same : R → R → Bool)
     (ties : (q r : R) → is_at q r ≡ is_eq (cmp q r)) (itself : (r : R) → is_same r r ≡ true)
     (removal put : R → Edit) where
-  -- a row is looked for among those that are chosen as it is
+  -- a row is looked up among those that are chosen in the same way
   find_alike : (s : R → Bool) → ((q r : R) → is_at q r ≡ true → s q ≡ s r) → (r : R) → s r ≡ true → (rows : List R)
       → find (λ q. is_at q r) (filter s rows) ≡ find (λ q. is_at q r) rows
   find_alike s alike r chosen rows = find_seen (λ q. is_at q r) s (λ q here. alike q r here ∙ chosen) rows

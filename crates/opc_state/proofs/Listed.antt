@@ -1,4 +1,4 @@
--- A list of those that pass a test, as a loop comes to one more.
+-- A list of those that pass a test, as a loop reaches one more.
 use Rattle.std.proofs.Common.{
   ◌≡◌,
   ◌<◌,

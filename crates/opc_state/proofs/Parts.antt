@@ -194,7 +194,7 @@ board_becomes s new was now =
     next to_log (map edit.AddMessage new.messages) s s7 (with_board new s) e7
     (history_becomes edit.AddMessage (λ t. t.board.messages) with_messages (λ t. refl) (λ rows t. refl) (λ one other t. refl) (λ r t. refl) new.messages s7)
 
--- a board doesn't differ from itself
+-- a board does not differ from itself
 
 no_part : {R : Type 0} (cmp : R → R → Ordering) → IsTotalOrder cmp → (is_at is_same : R → R → Bool)
     → ((q r : R) → is_at q r ≡ is_eq (cmp q r)) → ((q r : R) → is_same q r ≡ true → q ≡ r)

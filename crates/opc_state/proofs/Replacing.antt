@@ -71,7 +71,7 @@ module _ {R : Type 0} (cmp : R → R → Ordering) (total : IsTotalOrder cmp) (i
   pub met : (q r k : R) → is_at q k ≡ true → is_at r k ≡ true → cmp q r ≡ Equal
   met q r k one other = let back : cmp k r ≡ Equal = tied_back total r k (tie r k other) in total.congr q k r (tie q k one) ∙ back
 
-  -- one that is before another isn't at its key
+  -- one that is before another is not at its key
   pub apart : (q r k : R) → before q r ≡ true → is_at q k ≡ true → is_at r k ≡ false
   apart q r k less one = go (is_at r k) refl
     where
@@ -351,7 +351,7 @@ module _ {R : Type 0} (cmp : R → R → Ordering) (total : IsTotalOrder cmp) (i
           ∙ ap (λ z. cond (is_some z) None (find_at k old)) (at_passing cmp total is_at ties (λ r. is_none (find_at r new)) k old was))
           ∙ settled k old new (find_at k new) (find_at k old) refl refl
 
-  -- a list doesn't differ from itself
+  -- a list does not differ from itself
   pub none_gone : (rows : List R) → Ascends (λ q r. is_lt (cmp q r)) rows → gone is_at rows rows ≡ []
   none_gone rows order = none_pass (λ r. find_at r rows ≡ Some r) (λ r. is_none (find_at r rows))
       (λ r found. ap is_none found) rows (each_found cmp total is_at ties rows order)

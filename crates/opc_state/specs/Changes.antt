@@ -82,11 +82,11 @@ with_messages messages s = record s { board = record s.board { messages = messag
 abbrev pub with_batches : List Batch → State → State
 with_batches batches s = record s { batches = batches }
 
--- the state with a board, whose histories are what those that there were gain
+-- the state with a board, whose histories are added to those of the state
 abbrev pub with_board : BoardRows → State → State
 with_board new s = record s { board = after (history_of s.board) new }
 
--- one member is put in its place, or goes; a history gains a row at its end
+-- one member is put in its place, or removed; a row is added at the end of a history
 abbrev pub edited : Edit → State → State
 edited (edit.SetActive class active) s = with_actives (with_active class active s.policy.active) s
 edited (edit.PutGroup name) s = with_groups (with_group name s.policy.groups) s
@@ -118,7 +118,7 @@ abbrev pub all_edited : List Edit → State → State
 all_edited [] s = s
 all_edited (e ∷ edits) s = all_edited edits (edited e s)
 
--- the account grows at its end
+-- a row is added at the end of the account
 abbrev pub with_account_row : AccountRow → State → State
 with_account_row row s = record s { account = s.account ++ row ∷ [] }
 

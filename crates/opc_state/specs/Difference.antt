@@ -41,7 +41,7 @@ abbrev pub as_it_was : {R : Type 0} → (R → R → Bool) → Option R → R �
 as_it_was is_same None row = false
 as_it_was is_same (Some old) row = is_same old row
 
--- the new rows that the old ones lack, or have otherwise
+-- the new rows that the old ones lack, or have with other contents
 abbrev pub fresh : {R : Type 0} → (R → R → Bool) → (R → R → Bool) → List R → List R → List R
 fresh is_at is_same old new = filter (λ r. not (as_it_was is_same (find (λ q. is_at q r) old) r)) new
 
@@ -122,7 +122,7 @@ halted_difference false false = []
 halted_difference true false = edit.SetHalted false ∷ []
 halted_difference false true = edit.SetHalted true ∷ []
 
--- part by part, and then what histories gain
+-- part by part, and then what is added to histories
 abbrev pub board_difference : BoardRows → BoardRows → List Edit
 board_difference old new =
     part_difference unit_at same_unit unit_removal edit.PutUnit old.units new.units

@@ -1,4 +1,4 @@
--- What holds of every state that the machine comes to.
+-- What holds of every state that the machine reaches.
 use Rattle.std.specs.Prelude.{◌≡◌, ℕ, true, false, List, IfSome}
 use Rattle.std.specs.List.{AllByRecursion}
 use Rattle.std.specs.Ordering.{is_lt}
@@ -21,11 +21,11 @@ use Rattle.opc_state.specs.State.{State}
 abbrev pub IsConnectOfStored : Policy → Connect → Type 0
 IsConnectOfStored p c = (has_user p c.user ≡ true) × (has_group p c.group ≡ true)
 
--- whom an entry is for is stored: a user, a group, or everyone
+-- the holder of an entry is stored: a user, a group, or everyone
 abbrev pub IsEntryOfStored : Policy → Entry → Type 0
 IsEntryOfStored p e = has_holder p e.id ≡ true
 
--- and so are the owner of a profile and whoever its access list names
+-- and so are the owner of a profile and all holders of its access list
 abbrev pub IsProfileOfStored : Policy → Profile → Type 0
 IsProfileOfStored p profile = (has_user p profile.owner ≡ true) × AllByRecursion (IsEntryOfStored p) profile.entries
 

@@ -1,4 +1,4 @@
--- What the loads of tables give of a state.
+-- What the loads of tables return of a state.
 use Rattle.std.specs.Prelude.{ℕ, ◌-◌, ◌==◌, ◌||◌, ◌&&◌, Bool, List, [], Option, filter, find, take, drop}
 use Rattle.std.specs.List.{list_any, enumerate_from}
 use Rattle.std.specs.Option.{option_map, option_map_or}

@@ -23,8 +23,8 @@ pub struct Batch {
     pub rows: Rows<Row>,
 }
 
-/// One member of the state that is put, in the place of one with its key, or removed by its key; or a row that a
-/// history gains at its end.
+/// One member of the state that is put, in the place of the one with its key, or removed by its key; or a row that is
+/// added at the end of a history.
 #[derive(Drop)]
 pub enum Edit {
     SetActive(Class, bool),
@@ -36,7 +36,7 @@ pub enum Edit {
     RemoveConnect(Connect),
     /// A profile, which keeps the access list of the one that it replaces.
     PutProfile(Profile),
-    /// A profile goes with its access list.
+    /// A profile is removed with its access list.
     RemoveProfile(Class, Pattern),
     PutEntry(Class, Pattern, Entry),
     /// The entry for this id, and for this console alone or, if none is given, for every console.

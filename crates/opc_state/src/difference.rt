@@ -90,7 +90,7 @@ fn remove_gone<R: Member>(
     Ok(())
 }
 
-// Puts the new rows that the old ones lack, or have otherwise.
+// Puts the new rows that the old ones lack, or have with other contents.
 fn put_fresh<R: Member>(
     alloc: Global,
     edits: &mut Vec<Edit>,
@@ -160,7 +160,8 @@ fn parts(alloc: Global, old: &BoardRows, new: &BoardRows) -> Result<Vec<Edit>, A
 }
 
 /// The edits by which a board becomes another one, from their footprints. The histories of the new one are what is
-/// added to theirs. Members that stay as they are are not among the edits; so there are none if a state stays as it is.
+/// added to the old ones. Members that stay as they are are not among the edits; so there are none if a state stays as
+/// it is.
 pub fn difference(alloc: Global, old: &Board, new: &Board) -> Result<Vec<Edit>, AllocError>
     ensures becomes { IfOk result (λ edits. (s : State) → (whole : BoardRows) → AreFootprints old.now new.now s whole
         → all_edited edits.items s ≡ with_board whole s) }

@@ -52,7 +52,7 @@ pub(crate) trait Member: Keyed + Drop {
         ensures { result ≡ removal self.now };
 }
 
-/// A row that a history gains at its end.
+/// A row that is added at the end of a history.
 pub(crate) trait Past: Drop {
     ghost added: { Self → TheEdit };
 

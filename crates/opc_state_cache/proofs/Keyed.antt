@@ -81,7 +81,7 @@ all_two : {A : Type 0} (P Q R : A → Type 0) → ((a : A) → P a → Q a → R
 all_two P Q R turn [] ps qs = tt
 all_two P Q R turn (x ∷ xs) ps qs = (turn x ps.0 qs.0, all_two P Q R turn xs ps.1 qs.1)
 
--- those that pass a test, by what the test says
+-- those that pass a test, by the result of the test
 all_passing : {A : Type 0} (P Q : A → Type 0) (test : A → Bool) → ((a : A) → test a ≡ true → P a → Q a) → (xs : List A)
     → AllByRecursion P xs → AllByRecursion Q (filter test xs)
 all_passing P Q test turn [] ps = tt

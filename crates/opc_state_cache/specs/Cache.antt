@@ -49,7 +49,7 @@ pub record IsCached {T : Type 0} (m : Meaning T) (tables : T) (entries : Entries
   pub right : IsRight s.policy entries
   pub keyed : (e : Name × Option (List ℕ)) → Contains entries e → IsKeyed s
 
--- One more name is cached, or memory was refused for it.
+-- One more name is cached, or its allocation failed.
 abbrev pub IsKeptWith : Entries → Entries → Name → Option (List ℕ) → Type 0
 IsKeptWith old new name pattern = (new ≡ old) ⊎ (new ≡ put_entries same_name (lru_cache old 256) name pattern)
 

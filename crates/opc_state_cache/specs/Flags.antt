@@ -25,8 +25,8 @@ with_active Opercmds active flags = record flags { opercmds = Some active }
 abbrev pub with_halted : Bool → Flags → Flags
 with_halted halted flags = record flags { halted = Some halted }
 
--- Each flag that is known is the state's. Whoever asks whether the day is halted also learns that the state is in the
--- order of its keys.
+-- Each flag that is known is the state's. A call that loads whether the day is halted also learns that the state is in
+-- the order of its keys.
 pub record AreFlagsOf (s : State) (flags : Flags) : Type 0 where
   pub halted : IfSome flags.halted (λ halted. (halted ≡ s.board.halted) × IsKeyed s)
   pub active : (class : Class) → IfSome (known_active flags class) (λ active. active ≡ is_active s.policy.active class)

@@ -29,8 +29,8 @@ use opc_terms::fault::Fault;
 use opc_terms::store_fault::StoreFault;
 use std::alloc::Global;
 
-/// Tables that know which profile decides the names that were asked most recently, whether the day is halted, and which
-/// classes are active. What they answer is what the tables answer.
+/// Tables that remember which profile decides the most recently requested names, whether the day is halted, and which
+/// classes are active. Their answers are those of the tables.
 #[derive(Drop)]
 pub struct Cached<T: Tables> {
     pub(crate) tables: T,
@@ -39,7 +39,7 @@ pub struct Cached<T: Tables> {
 }
 
 impl<T: Tables> Cached<T> {
-    /// These tables, with nothing cached yet. If memory is refused (E90), they are returned.
+    /// These tables, with nothing cached yet. If the allocation fails (E90), they are returned.
     pub fn new(alloc: Global, tables: T) -> Result<Self, (Fault, T)>
         ensures made { IfOk result (λ cached.
             (cached.tables ≡ tables) × (cached.recent ≡ []) × (cached.flags ≡ unknown)) }
@@ -91,7 +91,7 @@ impl<T: Tables> Cached<T> {
     }
 
     /// Forgets the flags before a change that sets one, and all names before one that may change which profile decides.
-    /// Before the commit, since afterwards the cache would be stale when a commit succeeded but could not report success.
+    /// Before the commit, since afterwards the cache would be stale if a commit succeeded but could not report success.
     pub(crate) fn invalidate_for(
         &mut self,
         alloc: Global,
@@ -121,8 +121,10 @@ fn pattern_of(profile: &Option<Profile>) -> Option<Pattern>
     }
 }
 
-/// The profile of a pattern that is known to decide, or none if none does. A hit loads the profile by its key. That it
-/// is found there rests on the order of the keys, which the search gives with its answer and the cache keeps.
+/// The profile of a pattern that is known to decide, or none if none does. A hit loads the profile by its key: its
+/// definition is not cached, since after an RAlter the same profile decides with another one, and an edit does not
+/// state whether its profile is new. It is found by its key because of the order of the keys, which the search returns
+/// with its answer and the cache keeps.
 pub(crate) fn cached_pattern<T: Tables>(
     tables: &mut T,
     alloc: Global,
@@ -168,7 +170,7 @@ fn any_redefines(edits: &[Edit]) -> bool
     edits.iter().any(redefines)
 }
 
-// A profile with a new definition decides what it decided before.
+// A profile with another definition decides what it decided before.
 fn adds_or_removes_profile<T: Tables>(
     tables: &mut T,
     alloc: Global,
@@ -186,8 +188,8 @@ fn adds_or_removes_profile<T: Tables>(
     }
 }
 
-// Whether edits may change which profile decides. The tables are asked only if a profile is among them: whether a
-// profile that is put is there already is one look-up by its key. A change without a profile asks nothing.
+// Whether edits may change which profile decides. The tables are asked only if a profile is among them: one look-up by
+// key shows whether a profile that is put is there already. A change without a profile looks up nothing.
 fn invalidates<T: Tables>(tables: &mut T, alloc: Global, edits: &[Edit]) -> Result<bool, StoreFault>
     ensures { Loads T.meaning tables.old tables.new result (λ s redecides. redecides ≡ invalidates s.policy edits.now) }
 {

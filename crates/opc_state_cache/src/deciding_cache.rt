@@ -1,4 +1,4 @@
-//! The names that were asked most recently.
+//! The most recently requested names.
 ghost use Rattle.std.specs.Prelude.{◌≡◌, ◌≤◌, ◌⊎◌, [], IfOk, length};
 ghost use Rattle.std.specs.Map.{lookup};
 ghost use Rattle.lru.specs.LruCache.{lru_cache, promoted, put_entries};
@@ -58,12 +58,12 @@ impl DecidingCache {
         self.cache.get(&(class, *resource)).copied()
     }
 
-    /// Remembers a name, in the place of the least recently used one if there are too many; not if memory is refused.
+    /// Remembers a name, in the place of the least recently used one if there are too many; not if an allocation fails.
     pub(crate) fn put(&mut self, class: Class, resource: &Resource, pattern: Option<Pattern>)
         ensures { (self.new ≡ self.old) ⊎
             (self.new ≡ put_entries same_name (lru_cache self.old 256) (class, resource.now) pattern) }
     {
-        // If memory is refused, the name is not cached, and the request proceeds.
+        // If the allocation fails, the name is not cached, and the request proceeds.
         let _refused = self.cache.put((class, *resource), pattern);
     }
 

@@ -1,11 +1,10 @@
-//! What is known of the flags that nearly every request asks for: whether the day is halted, and which classes are
-//! active.
+//! What is known of the flags that nearly every request needs: whether the day is halted, and which classes are active.
 ghost use Rattle.std.specs.Prelude.{◌≡◌};
 ghost use Rattle.opc_state_cache.specs.Flags.{known_active, unknown, with_active, with_halted};
 
 use opc_names::class::Class;
 
-/// The flags that were asked for since one of them was last set.
+/// The flags that were loaded since one of them was last set.
 #[derive(Clone, Copy)]
 pub(crate) struct Flags {
     pub(crate) halted: Option<bool>,

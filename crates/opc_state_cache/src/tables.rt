@@ -1,4 +1,4 @@
-//! The tables that the machine asks, with the cache before them.
+//! The tables that the machine loads from, with the cache before them.
 
 use crate::cached::{Cached, cached_pattern};
 use opc_board::rows::{ConsoleRow, DeviceRow, ReplyRow, UnitRow};

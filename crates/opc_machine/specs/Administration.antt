@@ -58,8 +58,8 @@ has_entry_for when id p = list_any (is_for when id) p.entries
 abbrev pub is_permitted : Policy → Class → List ℕ → List ℕ → Option (List ℕ) → Bool
 is_permitted p class pattern id when = option_map_or (has_entry_for when id) (profile_of p.profiles class pattern) false
 
--- A user is in use who is connected to a group, owns a profile, has an entry in an access list, or is logged on at a
--- console.
+-- A user is in use if the user is connected to a group, owns a profile, has an entry in an access list, or is logged on
+-- at a console.
 abbrev pub is_in_use : Policy → BoardRows → List ℕ → Bool
 is_in_use p b id = is_named p id || is_on id b
 
@@ -78,8 +78,8 @@ definition class pattern owner uacc warning = record {
 }
 
 -- The policy after an operation, or the fault of the first thing in the way, in the order in which the operation lists
--- its fields (RACF guide: the commands of these names). A profile that is altered keeps its access list, and one that
--- is deleted takes it along. Consoles are not part of a policy.
+-- its fields (RACF guide: the commands of these names). A profile that is altered keeps its access list, and a deleted
+-- one loses it. Consoles are not part of a policy.
 abbrev pub policy_changed : BoardRows → Operation → Policy → Result Policy Fault
 policy_changed b (operation.AddUser id special auditor digest restricted) p =
     unless (has_name p id) id
@@ -151,11 +151,11 @@ abbrev pub board_changed : Operation → BoardRows → BoardRows
 board_changed (operation.DefineConsole name auth mode) b = console_defined name auth mode b
 board_changed other b = b
 
--- the state after an operation, unless the last online console with AUTH MASTER is lost by it
+-- the state after an operation, unless that loses the last online console with AUTH MASTER
 abbrev pub changed : State → Operation → Result State Fault
 changed s o = with_rows_of s (board_changed o s.board) (policy_changed s.board o s.policy)
 
--- An operation of administration, asked at a console. It gives no line and has no rule.
+-- An operation of administration, requested at a console. It gives no line and has no rule.
 abbrev pub admin_outcome : State → List ℕ → Operation → StateOutcome
 admin_outcome s name o = do
   c ← console_asking s name

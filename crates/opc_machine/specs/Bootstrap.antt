@@ -28,7 +28,7 @@ abbrev pub mastered : Bool → State → Result State Fault
 mastered true s = Err LastMaster
 mastered false s = Ok s
 
--- Administration, imports and the first policy all come to this: a policy, or the first thing in the way; then the
+-- Administration, imports and the first policy all have this outcome: a policy, or the first thing in the way; then the
 -- consoles, unless the last master is lost.
 abbrev pub with_rows_of : State → BoardRows → Result Policy Fault → Result State Fault
 with_rows_of s board (Ok policy) = mastered (loses_master s.board board) (record s { policy = policy; board = board })
@@ -38,6 +38,6 @@ with_rows_of s board (Err fault) = Err fault
 abbrev pub with_rows : List Row → State → Result State Fault
 with_rows more s = with_rows_of s (consoles_after more s.board) (policy_after more s.policy)
 
--- and that no user is stored yet
+-- and no user is stored yet
 abbrev pub bootstrapped : List Row → State → Result State Fault
 bootstrapped more s = if has_users s.policy then Err NotEmpty else with_rows more s

@@ -1,4 +1,4 @@
--- What a command comes to, and what an event comes to.
+-- The outcome of a command, and that of an event.
 use Rattle.std.specs.Prelude.{
   Bool,
   true,
@@ -63,7 +63,7 @@ command_or (Err f) = refused (line_fault f) None
 abbrev pub command_in : List ℕ → Result Command Refusal
 command_in text = command_or (reading text)
 
--- what the unit is that a command names, if the need of the command depends on that
+-- the kind of the unit that a command names, if the need of the command depends on it
 abbrev pub kind_named : BoardRows → Command → UnitKindAt
 kind_named b (command.Cancel name) = kind_at b name.value
 kind_named b (command.Force name) = kind_at b name.value

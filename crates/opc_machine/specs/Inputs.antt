@@ -28,7 +28,7 @@ input_of (request.ListAccount console from count) = ListAccount console from cou
 input_of (request.Import console batch rows) = Import console batch rows
 input_of (request.Event event) = Event event
 
--- requests and their moments
+-- requests and their timestamps
 abbrev pub inputs_of : List (ℕ × Request) → List (ℕ × Input)
 inputs_of requests = map (λ (r : ℕ × Request). (r.0, input_of r.1)) requests
 

@@ -39,7 +39,7 @@ use Rattle.opc_machine.specs.declared.outcome.Refusal.{Refusal}
 use Rattle.opc_machine.specs.Outcome.{StateOutcome}
 use Rattle.opc_machine.specs.Rulings.{acting_user}
 
--- what a request comes to: what it does, or the first refusal that holds
+-- the outcome of a request: what it does, or the first refusal that holds
 abbrev pub outcome : State → Input → StateOutcome
 outcome s (input.Command name text) = command_outcome s name text
 outcome s (input.Admin name operation) = admin_outcome s name operation
@@ -92,7 +92,7 @@ abbrev pub answer_of : StateOutcome → Answer
 answer_of (Ok effect) = Done effect.lines effect.rule
 answer_of (Err refusal) = Refused refusal.fault refusal.rule
 
--- an answer that may take the place of any other: there was no memory, or the store failed
+-- an answer that may take the place of any other: an allocation or the store failed
 abbrev pub IsAborted : Answer → Type 0
 IsAborted answer = (answer ≡ Refused fault.NoMemory None) ⊎ (answer ≡ Refused fault.Store None)
 
@@ -107,7 +107,7 @@ pub record IsFull (s : State) (moment : ℕ) (r : Input) (answer : Answer) (new 
   pub answers : answer ≡ Refused fault.Store None
   pub same : new ≡ s
 
--- The answer and the state are those that the request comes to, and its rows have numbers.
+-- The answer and the state are those of the request's outcome, and its rows have numbers.
 pub record IsDone (s : State) (moment : ℕ) (r : Input) (answer : Answer) (new : State) : Type 0 where
   pub answers : answer ≡ answer_of (outcome s r)
   pub becomes : new ≡ after s moment r (outcome s r)

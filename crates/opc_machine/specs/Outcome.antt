@@ -1,4 +1,4 @@
--- What a request comes to: what it does and why it may, or why it is refused.
+-- The outcome of a request: what it does and by which rule, or why it is refused.
 use Rattle.std.specs.Prelude.{Bool, true, false, List, Option, Some, None, Result, Ok, Err}
 use Rattle.opc_terms.specs.declared.fault.Fault.{Fault}
 use Rattle.opc_terms.specs.declared.rule.Rule.{Rule}
@@ -27,7 +27,7 @@ does s lines rule = Ok (record { state = s; lines = lines; rule = rule })
 abbrev pub refused : {A : Type 0} → Fault → Option Rule → Result A Refusal
 refused fault rule = Err (record { fault = fault; rule = rule })
 
--- what was looked up, or this fault if there is none
+-- what was found, or this fault if nothing was
 abbrev pub found : {A : Type 0} → Fault → Option A → Result A Refusal
 found fault (Some x) = Ok x
 found fault None = refused fault None

@@ -21,7 +21,7 @@ use Rattle.opc_machine.specs.Outcome.{◌>>=◌, refused}
 use Rattle.opc_machine.specs.Rulings.{acting, logon_denial}
 use Rattle.opc_machine.specs.Commands.{console_for, denial_fault}
 
--- the console that asks: it is there and online, and the logon rule does not deny it
+-- the console of a request: it is there and online, and the logon rule does not deny it
 abbrev pub unless_denied : Option Rule → Result (Unit {0}) Refusal
 unless_denied None = Ok tt
 unless_denied (Some rule) = refused (denial_fault rule) (Some rule)
@@ -60,7 +60,7 @@ owns_changed p user other = false
 abbrev pub may_change : State → ConsoleRow → Operation → Bool
 may_change s c o = is_special (acting s c) || owns_changed s.policy (acting s c) o
 
--- the fault of whoever lacks it
+-- the fault if the user lacks it
 abbrev pub right_fault : Operation → Fault
 right_fault (operation.RAlter class pattern owner uacc warning) = NotOwner
 right_fault (operation.RDelete class pattern) = NotOwner

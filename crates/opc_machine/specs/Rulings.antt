@@ -39,7 +39,7 @@ acting_user s c = option_or c.user (own_user s c)
 abbrev pub acting : State → ConsoleRow → Option User
 acting s c = option_and_then (user_of s.policy.users) (acting_user s c)
 
--- the connect groups of whoever acts
+-- the connect groups of the acting user
 abbrev pub groups_acting : State → Option User → List (List ℕ)
 groups_acting s None = []
 groups_acting s (Some u) = groups_of s.policy.connects u.id
@@ -53,8 +53,8 @@ abbrev pub is_revoked : Option User → Bool
 is_revoked (Some u) = u.revoked
 is_revoked None = false
 
--- why the logon rule denies whatever is asked at a console, if it does: somebody has to be logged on, and whoever acts
--- may not be revoked
+-- why the logon rule denies all requests at a console, if it does: somebody must be logged on, and the acting user must
+-- not be revoked
 abbrev pub logon_denial : State → ConsoleRow → Option Rule
 logon_denial s c =
     if is_required c.mode && is_none c.user then Some rule.LogonRequired else
@@ -74,8 +74,8 @@ denied_or None ruling = ruling
 abbrev pub ruling : State → ConsoleRow → Need → Ruling
 ruling s c need = denied_or (logon_denial s c) (access_ruling s c (acting s c) need)
 
--- The ruling on a user who logs on at a console: nobody who is revoked, and READ on the console's name in class
--- CONSOLE. If that is undecided, the user is admitted.
+-- The ruling on a user who logs on at a console: the user must not be revoked, and needs READ on the console's name in
+-- class CONSOLE. If that is undecided, the user is admitted.
 abbrev pub console_access : State → ConsoleRow → User → Ruling
 console_access s c user =
     by_verdict (verdict (is_active s.policy.active Console) (deciding_in s.policy Console c.name) user (Some c.name)

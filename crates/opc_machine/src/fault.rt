@@ -6,7 +6,7 @@ use opc_board::fault::BoardFault;
 use opc_reader::line::ReadFault;
 use opc_terms::fault::Fault;
 
-/// The fault of a command line that is not read.
+/// The fault of a command line that cannot be read.
 pub fn of_line(fault: ReadFault) -> Fault
     ensures { result ≡ line_fault fault }
 {

@@ -1,4 +1,4 @@
-//! The access machine: what is asked of it, what it answers, and what each request comes to, by definition.
+//! The access machine: its requests, its answers, and the outcome of each request, by definition.
 #![tactic(auto)]
 
 pub mod fault;

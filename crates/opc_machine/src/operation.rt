@@ -55,7 +55,7 @@ pub enum Operation {
         uacc: Level,
         warning: bool,
     },
-    /// The access list goes with the profile.
+    /// The access list is removed with the profile.
     RDelete {
         class: Class,
         pattern: Pattern,

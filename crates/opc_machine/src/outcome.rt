@@ -1,4 +1,4 @@
-//! What a request comes to, before anything is written.
+//! The outcome of a request, before anything is written.
 ghost use Rattle.std.specs.Prelude.{◌≡◌, []};
 
 use opc_board::line::Line;
@@ -9,7 +9,7 @@ use opc_terms::rule::Rule;
 use opc_terms::store_fault::StoreFault;
 use std::alloc::Global;
 
-/// What is done, and why it may be: the edits that it makes, and the lines of the answer.
+/// What is done, and by which rule: the edits that it makes, and the lines of the answer.
 #[derive(Drop)]
 pub struct Effect {
     pub edits: Vec<Edit>,
@@ -24,7 +24,7 @@ pub struct Refusal {
     pub rule: Option<Rule>,
 }
 
-/// What a request comes to. If memory or the tables fail, there is none: the request is aborted.
+/// The outcome of a request. If an allocation or the tables fail, there is none: the request is aborted.
 #[derive(Drop)]
 pub enum Outcome {
     Done(Effect),

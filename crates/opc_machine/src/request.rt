@@ -10,7 +10,7 @@ use opc_rows::Rows;
 use opc_terms::fault::Fault;
 use opc_terms::rule::Rule;
 
-/// What is asked of the gate.
+/// What the gate can be asked.
 #[derive(Drop)]
 pub enum Request {
     /// A command line as it was typed at a console.

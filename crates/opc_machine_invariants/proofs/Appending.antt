@@ -44,7 +44,7 @@ module _ {X : Type 0} (cmp : X → X → Ordering) (total : IsTotalOrder cmp) wh
       ap (λ o. match_ordering o (y ∷ x ∷ xs ++ z ∷ ys) (y ∷ xs ++ z ∷ ys) (x ∷ replace_key cmp (xs ++ z ∷ ys) y)) (greater x y all.0)
       ∙ ap (λ zs. x ∷ zs) (replace_middle xs y z ys all.1 same)
 
--- a look-up goes past those that do not pass
+-- a look-up skips those that do not pass
 pub find_past : {X : Type 0} (p : X → Bool) (xs ys : List X) → AllByRecursion (λ x. p x ≡ false) xs → find p (xs ++ ys) ≡ find p ys
 find_past p [] ys none = refl
 find_past p (x ∷ xs) ys none = go (p x) none.0 (find_past p xs ys none.1)

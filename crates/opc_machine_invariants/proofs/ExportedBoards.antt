@@ -73,7 +73,7 @@ past_permits (q ∷ profiles) b =
     ∙ ap (consoles_after (flat_map permits_of profiles)) (past (row_of_entry q.class q.pattern) (λ e c. refl) q.entries b)
     ∙ past_permits profiles b
 
--- of two names one is not before the other both ways
+-- two names are not each before the other
 once : (a b : List ℕ) → earlier a b ≡ true → earlier b a ≡ false
 once a b less = ap is_lt (nat_list_cmp_total.antisymm b a) ∙ go (slice_cmp nat_cmp a b) less
   where

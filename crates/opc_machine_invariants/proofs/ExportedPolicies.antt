@@ -66,7 +66,7 @@ use Rattle.opc_state.specs.PolicyFile.{
   rows_of_classes,
 }
 use Rattle.opc_state.specs.State.{empty}
-use Rattle.opc_machine_invariants.specs.KeptInvariants.{IsOrdered}
+use Rattle.opc_machine_invariants.specs.KeptInvariants.{IsInKeyOrder}
 use Rattle.opc_machine_invariants.proofs.Appending.{all_before, all_of, find_past, insert_last, replace_last, replace_middle}
 use Rattle.opc_machine_invariants.proofs.Taken.{all_taken, then_rows}
 
@@ -159,8 +159,8 @@ no_group p id there (g ∷ groups) apart = go (bytes_eq id g) refl (no_group p i
     go true same more = sym there ∙ ap (has_user p) ((bytes_eq-Decides id g).0 same) ∙ apart.0
     go false same more = more
 
-module _ (p : Policy) (invariants : IsPolicy p) (order : IsOrdered p) where
-  -- the policy, as far as it is made
+module _ (p : Policy) (invariants : IsPolicy p) (order : IsInKeyOrder p) where
+  -- the policy, as far as it has been made
   abbrev of_groups : List (List ℕ) → Policy
   of_groups groups = record { users = []; groups = groups; connects = []; profiles = []; active = p.active }
 

@@ -143,7 +143,7 @@ fewer_found {K} test keep (x ∷ xs) none = go (keep x) (test x) refl none (fewe
     go true false so h later = ap (λ (t : Bool). is_some (if t then Some x else find test (filter keep xs))) so ∙ later h
     go false false so h later = later h
 
--- if no element passes a test, what holds of those that don't holds of all
+-- if no element passes a test, what holds of those that do not holds of all
 pub all_unless : {K : Type 0} (test : K → Bool) (P Q : K → Type 0) → ((x : K) → test x ≡ false → P x → Q x) → (xs : List K)
     → list_any test xs ≡ false → AllByRecursion P xs → AllByRecursion Q xs
 all_unless test P Q turns [] none all = tt

@@ -81,7 +81,7 @@ use Rattle.opc_machine_invariants.specs.KeptInvariants.{
   EmptyHasInvariants,
   InvariantsGiveKeys,
   HasInvariants,
-  IsOrdered,
+  IsInKeyOrder,
   RunsKeepInvariants,
   StepsKeepInvariants,
 }
@@ -179,7 +179,7 @@ IfTaken (Ok s) = HasInvariants s
 IfTaken (Err f) = Unit {0}
 
 with_rows_kept : (s : State) (b : BoardRows) (r : Result Policy Fault) → IfMade (λ q. IsPolicy q × IsKeptBoard q b) r
-    → IfMade IsOrdered r → IfTaken (with_rows_of s b r)
+    → IfMade IsInKeyOrder r → IfTaken (with_rows_of s b r)
 with_rows_kept s b (Ok p) kept order = go (loses_master s.board b)
   where
     go : (lost : Bool) → IfTaken (mastered lost (record s { policy = p; board = b }))

@@ -33,7 +33,7 @@ use Rattle.opc_state.specs.Members.{without_connect, without_entry, without_perm
 use Rattle.opc_machine.specs.Administration.{definition, has_name, is_in_use, is_permitted, policy_changed}
 use Rattle.opc_machine.specs.declared.operation.Operation.{Operation}
 use Rattle.opc_machine.specs.declared.operation.Operation.TheVariants as operation
-use Rattle.opc_machine_invariants.specs.KeptInvariants.{IsOrdered}
+use Rattle.opc_machine_invariants.specs.KeptInvariants.{IsInKeyOrder}
 use Rattle.opc_machine_invariants.proofs.Policies.{IfMade, in_use_made, needing_made, unless_made}
 use Rattle.opc_machine_invariants.proofs.Extending.{all_replaced}
 
@@ -114,8 +114,8 @@ profile_total = then_total (on_total (λ (p : Profile). p.class) class_total) (o
 
 -- each member of a policy
 
-module _ (p : Policy) (o : IsOrdered p) where
-  with_users : (u : User) → IsOrdered (record p { users = with_user u p.users })
+module _ (p : Policy) (o : IsInKeyOrder p) where
+  with_users : (u : User) → IsInKeyOrder (record p { users = with_user u p.users })
   with_users u = record {
     users = replaced user_cmp user_total u p.users o.users;
     groups = o.groups;
@@ -124,7 +124,7 @@ module _ (p : Policy) (o : IsOrdered p) where
     entries = o.entries;
   }
 
-  less_users : (id : List ℕ) → IsOrdered (record p { users = without_user id p.users })
+  less_users : (id : List ℕ) → IsInKeyOrder (record p { users = without_user id p.users })
   less_users id = record {
     users = ascends_filter _ (λ (u : User). not (bytes_eq u.id id)) p.users o.users;
     groups = o.groups;
@@ -133,7 +133,7 @@ module _ (p : Policy) (o : IsOrdered p) where
     entries = o.entries;
   }
 
-  with_groups : (name : List ℕ) → IsOrdered (record p { groups = with_group name p.groups })
+  with_groups : (name : List ℕ) → IsInKeyOrder (record p { groups = with_group name p.groups })
   with_groups name = record {
     users = o.users;
     groups = inserted name_cmp nat_list_cmp_total name p.groups o.groups;
@@ -142,7 +142,7 @@ module _ (p : Policy) (o : IsOrdered p) where
     entries = o.entries;
   }
 
-  with_connects : (c : Connect) → IsOrdered (record p { connects = with_connect c p.connects })
+  with_connects : (c : Connect) → IsInKeyOrder (record p { connects = with_connect c p.connects })
   with_connects c = record {
     users = o.users;
     groups = o.groups;
@@ -151,7 +151,7 @@ module _ (p : Policy) (o : IsOrdered p) where
     entries = o.entries;
   }
 
-  less_connects : (c : Connect) → IsOrdered (record p { connects = without_connect c p.connects })
+  less_connects : (c : Connect) → IsInKeyOrder (record p { connects = without_connect c p.connects })
   less_connects c = record {
     users = o.users;
     groups = o.groups;
@@ -163,7 +163,7 @@ module _ (p : Policy) (o : IsOrdered p) where
   abbrev IsListed : Profile → Type 0
   IsListed q = Ascends (λ (e f : Entry). is_lt (entry_cmp e f)) q.entries
 
-  with_profile : (q : Profile) → IsListed q → IsOrdered (record p { profiles = replace_key profile_cmp p.profiles q })
+  with_profile : (q : Profile) → IsListed q → IsInKeyOrder (record p { profiles = replace_key profile_cmp p.profiles q })
   with_profile q listed = record {
     users = o.users;
     groups = o.groups;
@@ -172,7 +172,7 @@ module _ (p : Policy) (o : IsOrdered p) where
     entries = all_replaced IsListed profile_cmp q p.profiles listed o.entries;
   }
 
-  less_profiles : (class : Class) (pattern : List ℕ) → IsOrdered (record p { profiles = without_profile class pattern p.profiles })
+  less_profiles : (class : Class) (pattern : List ℕ) → IsInKeyOrder (record p { profiles = without_profile class pattern p.profiles })
   less_profiles class pattern = record {
     users = o.users;
     groups = o.groups;
@@ -184,7 +184,7 @@ module _ (p : Policy) (o : IsOrdered p) where
   listed_at : (class : Class) (pattern : List ℕ) (q : Profile) → profile_of p.profiles class pattern ≡ Some q → IsListed q
   listed_at class pattern q at = all_found IsListed (is_of class pattern) q p.profiles at o.entries
 
-  with_definitions : (d : Profile) → IsListed d → IsOrdered (record p { profiles = with_definition d p.profiles })
+  with_definitions : (d : Profile) → IsListed d → IsInKeyOrder (record p { profiles = with_definition d p.profiles })
   with_definitions d listed = with_profile
       (record d {
         entries = option_map_or (λ (q : Profile). q.entries) (profile_of p.profiles d.class d.pattern)
@@ -197,11 +197,11 @@ module _ (p : Policy) (o : IsOrdered p) where
       go None at = listed
       go (Some q) at = listed_at d.class d.pattern q at
 
-  with_permissions : (class : Class) (pattern : List ℕ) (e : Entry) → IsOrdered (record p { profiles = with_permission class pattern e p.profiles })
+  with_permissions : (class : Class) (pattern : List ℕ) (e : Entry) → IsInKeyOrder (record p { profiles = with_permission class pattern e p.profiles })
   with_permissions class pattern e = go (profile_of p.profiles class pattern) refl
     where
       go : (found : Option Profile) → profile_of p.profiles class pattern ≡ found
-          → IsOrdered (record p {
+          → IsInKeyOrder (record p {
             profiles = option_map_or
                 (λ (q : Profile). replace_key profile_cmp p.profiles (record q { entries = with_entry e q.entries }))
                 found p.profiles;
@@ -210,11 +210,11 @@ module _ (p : Policy) (o : IsOrdered p) where
       go (Some q) at = with_profile (record q { entries = with_entry e q.entries }) (replaced entry_cmp order e q.entries (listed_at class pattern q at))
 
   less_permissions : (class : Class) (pattern id : List ℕ) (when : Option (List ℕ))
-      → IsOrdered (record p { profiles = without_permission class pattern id when p.profiles })
+      → IsInKeyOrder (record p { profiles = without_permission class pattern id when p.profiles })
   less_permissions class pattern id when = go (profile_of p.profiles class pattern) refl
     where
       go : (found : Option Profile) → profile_of p.profiles class pattern ≡ found
-          → IsOrdered (record p {
+          → IsInKeyOrder (record p {
             profiles = option_map_or
                 (λ (q : Profile). replace_key profile_cmp p.profiles
                 (record q { entries = without_entry id when q.entries })) found p.profiles;
@@ -224,8 +224,8 @@ module _ (p : Policy) (o : IsOrdered p) where
           (ascends_filter _ (λ (e : Entry). not (is_for when id e)) q.entries (listed_at class pattern q at))
 
 -- Each operation keeps the order,
-pub policy_ordered : (b : BoardRows) (op : Operation) (p : Policy) → IsOrdered p → IfMade IsOrdered (policy_changed b op p)
-policy_ordered b (operation.AddUser id special auditor digest restricted) p o = unless_made IsOrdered (has_name p id) id _ (λ _. with_users p o (record {
+pub policy_ordered : (b : BoardRows) (op : Operation) (p : Policy) → IsInKeyOrder p → IfMade IsInKeyOrder (policy_changed b op p)
+policy_ordered b (operation.AddUser id special auditor digest restricted) p o = unless_made IsInKeyOrder (has_name p id) id _ (λ _. with_users p o (record {
   id = id;
   special = special;
   auditor = auditor;
@@ -234,7 +234,7 @@ policy_ordered b (operation.AddUser id special auditor digest restricted) p o = 
   restricted = restricted;
 }))
 policy_ordered b (operation.AltUser id special auditor revoked digest restricted) p o =
-    needing_made IsOrdered (has_user p id) id _ (λ _. with_users p o (record {
+    needing_made IsInKeyOrder (has_user p id) id _ (λ _. with_users p o (record {
       id = id;
       special = special;
       auditor = auditor;
@@ -243,44 +243,44 @@ policy_ordered b (operation.AltUser id special auditor revoked digest restricted
       restricted = restricted;
     }))
 policy_ordered b (operation.DelUser id) p o =
-    needing_made IsOrdered (has_user p id) id _
-    (λ _. in_use_made IsOrdered (is_in_use p b id) id _ (λ _. less_users p o id))
-policy_ordered b (operation.AddGroup name) p o = unless_made IsOrdered (has_name p name) name _ (λ _. with_groups p o name)
+    needing_made IsInKeyOrder (has_user p id) id _
+    (λ _. in_use_made IsInKeyOrder (is_in_use p b id) id _ (λ _. less_users p o id))
+policy_ordered b (operation.AddGroup name) p o = unless_made IsInKeyOrder (has_name p name) name _ (λ _. with_groups p o name)
 policy_ordered b (operation.Connect user group) p o =
-    needing_made IsOrdered (has_user p user) user _
-    (λ _. needing_made IsOrdered (has_group p group) group _
-    (λ _. unless_made IsOrdered (is_connected p user group) group _ (λ _. with_connects p o (record {
+    needing_made IsInKeyOrder (has_user p user) user _
+    (λ _. needing_made IsInKeyOrder (has_group p group) group _
+    (λ _. unless_made IsInKeyOrder (is_connected p user group) group _ (λ _. with_connects p o (record {
       user = user;
       group = group;
     }))))
 policy_ordered b (operation.Remove user group) p o =
-    needing_made IsOrdered (has_user p user) user _
-    (λ _. needing_made IsOrdered (has_group p group) group _
-    (λ _. needing_made IsOrdered (is_connected p user group) group _ (λ _. less_connects p o (record {
+    needing_made IsInKeyOrder (has_user p user) user _
+    (λ _. needing_made IsInKeyOrder (has_group p group) group _
+    (λ _. needing_made IsInKeyOrder (is_connected p user group) group _ (λ _. less_connects p o (record {
       user = user;
       group = group;
     }))))
 policy_ordered b (operation.RDefine class pattern owner uacc warning) p o =
-    unless_made IsOrdered (is_some (profile_of p.profiles class pattern)) pattern _
-    (λ _. needing_made IsOrdered (has_user p owner) owner _
+    unless_made IsInKeyOrder (is_some (profile_of p.profiles class pattern)) pattern _
+    (λ _. needing_made IsInKeyOrder (has_user p owner) owner _
     (λ _. with_definitions p o (definition class pattern owner uacc warning) tt))
 policy_ordered b (operation.RAlter class pattern owner uacc warning) p o =
-    needing_made IsOrdered (is_some (profile_of p.profiles class pattern)) pattern _
-    (λ _. needing_made IsOrdered (has_user p owner) owner _
+    needing_made IsInKeyOrder (is_some (profile_of p.profiles class pattern)) pattern _
+    (λ _. needing_made IsInKeyOrder (has_user p owner) owner _
     (λ _. with_definitions p o (definition class pattern owner uacc warning) tt))
 policy_ordered b (operation.RDelete class pattern) p o =
-    needing_made IsOrdered (is_some (profile_of p.profiles class pattern)) pattern _
+    needing_made IsInKeyOrder (is_some (profile_of p.profiles class pattern)) pattern _
     (λ _. less_profiles p o class pattern)
 policy_ordered b (operation.Permit class pattern id level when) p o =
-    needing_made IsOrdered (is_some (profile_of p.profiles class pattern)) pattern _
-    (λ _. needing_made IsOrdered (has_holder p id) id _ (λ _. with_permissions p o class pattern (record {
+    needing_made IsInKeyOrder (is_some (profile_of p.profiles class pattern)) pattern _
+    (λ _. needing_made IsInKeyOrder (has_holder p id) id _ (λ _. with_permissions p o class pattern (record {
       id = id;
       when = when;
       level = level;
     })))
 policy_ordered b (operation.PermitDelete class pattern id when) p o =
-    needing_made IsOrdered (is_some (profile_of p.profiles class pattern)) pattern _
-    (λ _. needing_made IsOrdered (is_permitted p class pattern id when) id _
+    needing_made IsInKeyOrder (is_some (profile_of p.profiles class pattern)) pattern _
+    (λ _. needing_made IsInKeyOrder (is_permitted p class pattern id when) id _
     (λ _. less_permissions p o class pattern id when))
 policy_ordered b (operation.ClassActive class active) p o = record {
   users = o.users;
@@ -292,19 +292,19 @@ policy_ordered b (operation.ClassActive class active) p o = record {
 policy_ordered b (operation.DefineConsole name auth mode) p o = o
 
 -- so does each row,
-row_ordered : (row : Row) (p : Policy) → IsOrdered p → IfMade IsOrdered (after_row row p)
+row_ordered : (row : Row) (p : Policy) → IsInKeyOrder p → IfMade IsInKeyOrder (after_row row p)
 row_ordered (rows.Class class active) p o = record { users = o.users; groups = o.groups; connects = o.connects; profiles = o.profiles; entries = o.entries }
-row_ordered (rows.Group name) p o = unless_made IsOrdered (has_user p name) name _ (λ _. with_groups p o name)
-row_ordered (rows.User user) p o = unless_made IsOrdered (has_group p user.id) user.id _ (λ _. with_users p o user)
+row_ordered (rows.Group name) p o = unless_made IsInKeyOrder (has_user p name) name _ (λ _. with_groups p o name)
+row_ordered (rows.User user) p o = unless_made IsInKeyOrder (has_group p user.id) user.id _ (λ _. with_users p o user)
 row_ordered (rows.Connect user group) p o =
-    needing_made IsOrdered (has_user p user) user _
-    (λ _. needing_made IsOrdered (has_group p group) group _ (λ _. with_connects p o (record {
+    needing_made IsInKeyOrder (has_user p user) user _
+    (λ _. needing_made IsInKeyOrder (has_group p group) group _ (λ _. with_connects p o (record {
       user = user;
       group = group;
     })))
 row_ordered (rows.Console name auth mode) p o = o
 row_ordered (rows.Profile class pattern uacc owner warning) p o =
-    needing_made IsOrdered (has_user p owner) owner _ (λ _. with_definitions p o (record {
+    needing_made IsInKeyOrder (has_user p owner) owner _ (λ _. with_definitions p o (record {
       class = class;
       pattern = pattern;
       owner = owner;
@@ -313,20 +313,20 @@ row_ordered (rows.Profile class pattern uacc owner warning) p o =
       entries = [];
     }) tt)
 row_ordered (rows.Permit class pattern id level when) p o =
-    needing_made IsOrdered (is_some (profile_of p.profiles class pattern)) pattern _
-    (λ _. needing_made IsOrdered (has_holder p id) id _ (λ _. with_permissions p o class pattern (record {
+    needing_made IsInKeyOrder (is_some (profile_of p.profiles class pattern)) pattern _
+    (λ _. needing_made IsInKeyOrder (has_holder p id) id _ (λ _. with_permissions p o class pattern (record {
       id = id;
       when = when;
       level = level;
     })))
 
 -- and so do rows one after another
-pub rows_ordered : (all : List Row) (p : Policy) → IsOrdered p → IfMade IsOrdered (policy_after all p)
+pub rows_ordered : (all : List Row) (p : Policy) → IsInKeyOrder p → IfMade IsInKeyOrder (policy_after all p)
 rows_ordered [] p o = o
 rows_ordered (row ∷ more) p o = go (after_row row p) (row_ordered row p o) (λ q h. rows_ordered more q h)
   where
-    go : (r : Result Policy Fault) → IfMade IsOrdered r
-        → ((q : Policy) → IsOrdered q → IfMade IsOrdered (policy_after more q))
-        → IfMade IsOrdered (then_policy r (λ q. policy_after more q))
+    go : (r : Result Policy Fault) → IfMade IsInKeyOrder r
+        → ((q : Policy) → IsInKeyOrder q → IfMade IsInKeyOrder (policy_after more q))
+        → IfMade IsInKeyOrder (then_policy r (λ q. policy_after more q))
     go (Ok q) h later = later q h
     go (Err f) h later = tt

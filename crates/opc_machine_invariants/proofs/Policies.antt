@@ -182,7 +182,7 @@ less_permission_kept p class pattern id when invariants =
         all_replaced (IsProfileOfStored p) profile_cmp (record q { entries = without_entry id when q.entries }) p.profiles
         (was.0, all_filter (IsEntryOfStored p) (λ (e : Entry). not (is_for when id e)) q.entries was.1) invariants.profiles
 
--- a user that is not in use goes
+-- a user that is not in use is removed
 
 module _ (p : Policy) (b : BoardRows) (id : List ℕ) (unused : is_in_use p b id ≡ false) where
   abbrev gone : Policy
@@ -241,7 +241,7 @@ module _ (p : Policy) (b : BoardRows) (id : List ℕ) (unused : is_in_use p b id
         (λ c differs stored. holder_stays c.user differs stored) b.consoles off kept.1,
   )
 
--- what is made of a policy, if it is
+-- what is made of a policy, if anything is
 abbrev pub IfMade : (Policy → Type 0) → Result Policy Fault → Type 0
 IfMade P (Ok q) = P q
 IfMade P (Err f) = Unit {0}

@@ -21,7 +21,7 @@ use Rattle.opc_machine.specs.Machine.{Runs, Step}
 
 -- What a policy has is in the order of the keys, and no key comes twice: users, groups, connects, profiles, and the
 -- entries of each access list.
-pub record IsOrdered (p : Policy) : Type 0 where
+pub record IsInKeyOrder (p : Policy) : Type 0 where
   pub users : Ascends (λ (u v : User). is_lt (user_cmp u v)) p.users
   pub groups : Ascends (λ (g h : List ℕ). is_lt (name_cmp g h)) p.groups
   pub connects : Ascends (λ (c d : Connect). is_lt (connect_cmp c d)) p.connects
@@ -30,7 +30,7 @@ pub record IsOrdered (p : Policy) : Type 0 where
 
 pub record HasInvariants (s : State) : Type 0 where
   pub state : IsState s
-  pub order : IsOrdered s.policy
+  pub order : IsInKeyOrder s.policy
 
 -- The empty state has them,
 abbrev pub EmptyHasInvariants : Type 0
@@ -40,7 +40,7 @@ EmptyHasInvariants = HasInvariants empty
 abbrev pub InvariantsGiveKeys : Type 0
 InvariantsGiveKeys = (s : State) → HasInvariants s → IsKeyed s
 
--- Each step keeps them, whatever is asked,
+-- Each step keeps them, whatever the request,
 abbrev pub StepsKeepInvariants : Type 0
 StepsKeepInvariants = (s : State) (moment : ℕ) (r : Input) (answer : Answer) (new : State) → HasInvariants s
     → Step s moment r answer new → HasInvariants new

@@ -18,8 +18,8 @@ pub fn invariants_give_keys()
 {}
 
 /// A step keeps the invariants of a state: those of the board, that no user and group have one name, that whoever is
-/// logged on at a console and whatever a connect, an owner or an access list names is stored, and that users, groups,
-/// connects, profiles and access lists are in the order of their keys, of which none comes twice.
+/// logged on at a console is stored, and so is whatever a connect, an owner or an access list names, and that users,
+/// groups, connects, profiles and access lists are in the order of their keys, of which none comes twice.
 pub fn steps_keep_invariants()
     ensures { StepsKeepInvariants }
 {}

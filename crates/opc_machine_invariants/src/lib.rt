@@ -1,4 +1,4 @@
-//! That whatever is asked of the access machine keeps the invariants of a state.
+//! Every request to the access machine keeps the invariants of a state.
 #![tactic(auto)]
 
 pub mod kept;

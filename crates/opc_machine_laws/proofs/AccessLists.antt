@@ -78,7 +78,7 @@ permission_at_console : refusal_with (at (codes "C1") (codes "EMIL") level.Read 
     (operation.PermitDelete Opercmds (codes "A.B") (codes "EMIL") (Some (codes "C1"))) ≡ None
 permission_at_console = refl
 
--- a user with an entry for a console alone is in use
+-- a user with an entry for one console alone is in use
 in_use_at_console : refusal_with (at (codes "C1") (codes "GUS") level.Read ∷ []) (operation.DelUser (codes "GUS")) ≡ plainly (fault.InUse (codes "GUS"))
 in_use_at_console = refl
 

@@ -44,14 +44,14 @@ use Rattle.opc_machine_laws.proofs.Denying.{IsLogonRule, logon_rule}
 use Rattle.opc_machine_laws.proofs.Knowing.{known_back}
 use Rattle.opc_machine_laws.proofs.Naming.{IsProper, logon_proper, ruling_proper}
 
--- the result of a line that is heard is that of its command
+-- the result of a line that is accepted is that of its command
 pub heard_so : (s : State) (name text : List ℕ) (c : ConsoleRow) (k : Command) → IsHeard s name text c k
     → command_outcome s name text ≡ typed s c k (need_of s.board k)
 heard_so s name text c k heard =
     ap (λ x. x >>= λ d. command_in text >>= λ l. typed s d l (need_of s.board l)) (console_back (console_at s.board name) c heard.there heard.online)
     ∙ ap (λ x. command_or x >>= λ l. typed s c l (need_of s.board l)) (reads_so text k heard.reads)
 
--- what comes to a denial by a rule
+-- what ends in a denial by a rule
 pub record ComesTo (o : StateOutcome) (why : Rule) : Type 0 where
   pub fault : Fault
   pub named : IsNamedBy fault why
@@ -90,7 +90,7 @@ module _ (s : State) (name : List ℕ) (why : Rule) (out : IsShutOut s name why)
   named : IsNamedBy (denial_fault why) why
   named = subst IsLogonRule out.denied (logon_rule s out.console)
 
--- what is denied comes to that denial
+-- what is denied ends in that denial
 comes_to : (s : State) (r : Input) (why : Rule) → IsDeniedBy s r why → ComesTo (outcome s r) why
 comes_to s (input.Command name text) why (inl out) = ruled_out s name text why out
 comes_to s (input.Command name text) why (inr off) = kept_off s name text why off

@@ -1,5 +1,5 @@
--- Worked cases of AUDITOR and of owners, computed: an auditor sees everything and changes nothing; an owner may change
--- the profile and nothing else; and listings do not ask whether the class is active.
+-- Worked cases of AUDITOR and of owners, computed: an auditor sees everything and changes nothing; an owner may change the profile and nothing else; and
+-- listings do not depend on whether the class is active.
 use Rattle.std.proofs.Common.{◌≡◌, ℕ, Bool, true, false, List, [], ◌∷◌, Option, Some, None, refl, codes}
 use Rattle.std.specs.Fmt.{digits}
 use Rattle.opc_names.specs.declared.auth.Auth.TheVariants as auth

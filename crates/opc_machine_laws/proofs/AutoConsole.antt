@@ -66,7 +66,7 @@ nobody_on = with_on false None
 abbrev carl_on : State
 carl_on = with_on false (Some (codes "CARL"))
 
--- what a command comes to there, once it is read
+-- the outcome of a command there, once it is read
 abbrev comes_to : State → Option (List ℕ) → Command → StateOutcome
 comes_to s on command = typed s (console on) command (need_of s.board command)
 

@@ -88,7 +88,7 @@ or_refused_ok (Err f) x h = absurd (search (rules, h))
 lines_of_done : (lines others : List Line) (why because : Option Rule) → Done lines why ≡ Done others because → (lines ≡ others) × (why ≡ because)
 lines_of_done lines others why because h = (search (rules, h), search (rules, h))
 
--- the console that asks may ask, and the converse
+-- the console of a request may make one, and the converse
 asking_is : (s : State) (name : List ℕ) (c : ConsoleRow) → console_asking s name ≡ Ok c → MayAsk s name c
 asking_is s name c h =
     let a = bind_ok (console_for s name) (λ d. unless_denied (logon_denial s d) >>= λ _. Ok d) c h in
@@ -285,7 +285,7 @@ imports_only s moment name number all lines why new (inr (inr done)) =
       batch_is s number all lines new (batch_of s.batches number) refl d.0 u.2 d.2 ends,
     )
 
--- if SPECIAL imports, it comes to the result of the batch
+-- if SPECIAL imports, the outcome is that of the batch
 pub import_right : (s : State) (name : List ℕ) (number : ℕ) (all : List Row) (c : ConsoleRow) → MayAsk s name c
     → is_special (acting s c) ≡ true → import_outcome s name number all ≡ batch_outcome s number all
     (batch_of s.batches number)

@@ -45,7 +45,7 @@ use Rattle.opc_machine_laws.specs.ActingLaws.{
   WhoIsOnComesFirst,
 }
 
--- whether the user who acts is revoked, if nobody has to be logged on
+-- whether the user who acts is revoked, if nobody must be logged on
 abbrev revoked_only : Option User → Option Rule
 revoked_only u = if is_revoked u then Some rule.Revoked else None
 

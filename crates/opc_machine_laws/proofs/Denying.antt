@@ -1,4 +1,4 @@
--- Refusals for lack of authority name their rule, whatever is asked.
+-- Refusals for lack of authority name their rule, whatever the request.
 use Rattle.std.proofs.Common.{
   ℕ,
   Bool,

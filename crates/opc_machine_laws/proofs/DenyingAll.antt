@@ -1,4 +1,4 @@
--- The rule of a refusal, whatever is asked.
+-- The rule of a refusal, whatever the request.
 use Rattle.std.proofs.Common.{
   ◌≡◌,
   inl,

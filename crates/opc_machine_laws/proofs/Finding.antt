@@ -21,7 +21,7 @@ module _ {A : Type 0} (p : A → Bool) (f : A → A) (y : A) where
       go false is g later = ap (λ b. cond b (Some x) (find p (changed p f xs))) is ∙ later g
 
 module _ {A : Type 0} (p q : A → Bool) (f : A → A) (y : A) where
-  -- which a look-up for others does not see
+  -- which a look-up of others does not notice
   pub find_others : q y ≡ false → q (f y) ≡ false → (xs : List A) → find p xs ≡ Some y → find q (changed p f xs) ≡ find q xs
   find_others before after [] at = refl
   find_others before after (x ∷ xs) at = go (p x) at (find_others before after xs)
@@ -111,7 +111,7 @@ module _ {A : Type 0} where
       go false true here kept later = ap (λ c. cond c (Some x) (find p (filter keep xs))) here ∙ later
       go a false here kept later = later
 
-  -- a change of each that the look-up does not see
+  -- a change of each that the look-up does not notice
   pub find_each : (p : A → Bool) (f : A → A) → ((x : A) → p (f x) ≡ p x) → (xs : List A) → find p (map f xs) ≡ option_map f (find p xs)
   find_each p f alike [] = refl
   find_each p f alike (x ∷ xs) = go (p x) refl (find_each p f alike xs)

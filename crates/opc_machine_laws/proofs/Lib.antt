@@ -45,3 +45,11 @@ pub mod Taking
 pub mod Reporting
 pub mod Worked
 pub mod WorkedListings
+pub mod Columns
+pub mod FaultWords
+pub mod Foreseen
+pub mod InOrder
+pub mod NamedSo
+pub mod NewStates
+pub mod RefusedSo
+pub mod SpelledSo

@@ -1,4 +1,4 @@
--- What commands and events leave, and that an online console with AUTH MASTER stays whatever is asked.
+-- What commands and events leave, and that an online console with AUTH MASTER stays whatever the request.
 use Rattle.std.proofs.Common.{◌≡◌, ◌⊎◌, inl, inr, ℕ, List, Option, Some, None, Result, Ok, refl, sym, ap, subst, ◌∙◌, rules}
 use Rattle.opc_terms.specs.declared.fault.Fault.{Fault}
 use Rattle.opc_terms.specs.declared.need.Need.{Need}

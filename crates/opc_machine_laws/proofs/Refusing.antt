@@ -69,7 +69,7 @@ use Rattle.opc_machine_laws.proofs.Changing.{asking_back, import_right}
 use Rattle.opc_machine_laws.proofs.Knowing.{unknown}
 use Rattle.opc_machine.proofs.SameBatches.{same_are_equal}
 
--- what comes to a refusal is answered by it
+-- what ends in a refusal is answered by it
 abbrev refusal : Fault → StateOutcome
 refusal f = refused f None
 
@@ -83,7 +83,7 @@ answered s r f comes moment answer new (inr (inr done)) = inr (done.answers ∙ 
 asking_refused : (s : State) (name : List ℕ) (d : Refusal) → console_for s name ≡ Err d → console_asking s name ≡ Err d
 asking_refused s name d h = ap (λ x. x >>= λ c. unless_denied (logon_denial s c) >>= λ _. Ok c) h
 
--- whatever is asked at a console that is not there
+-- whatever the request at a console that is not there
 first_refused : (s : State) (r : Input) (name : List ℕ) (d : Refusal) → console_of r ≡ Some name → console_for s name ≡ Err d → outcome s r ≡ Err d
 first_refused s (input.Command n text) name d names h =
     let at : n ≡ name = search (rules, names) in

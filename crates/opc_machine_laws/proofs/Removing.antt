@@ -147,7 +147,7 @@ forbidden class pattern id when p stored there = go (profile_of p.profiles class
 
 -- operations
 
--- what is first in the way is not there if it is done
+-- if it is done, the first possible obstacle is not there
 defined_in : (s : State) (o : Operation) (pattern : List ℕ) (b : Bool) (rest : List (Bool × Fault)) (new : State)
     → obstacles s o ≡ (not b, Missing pattern) ∷ rest → changed s o ≡ Ok new → b ≡ true
 defined_in s o pattern true rest new first makes = refl

@@ -85,7 +85,7 @@ pub rules_read : RulesReadSo
 rules_read = record { profile = refl; warned = refl; none = refl; group = refl; logon = refl; revoked = refl; no_rule = refl }
 
 pub words_read : WordsReadSo
-words_read = record { levels = refl; groups = refl }
+words_read = record { levels = refl; groups = refl; classes = refl; modes = refl }
 
 pub lines_read : LinesReadSo
 unfolding digits

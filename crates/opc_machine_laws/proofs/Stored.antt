@@ -32,7 +32,9 @@ use Rattle.std.proofs.Common.{
 }
 use Rattle.std.specs.List.{list_any}
 use Rattle.std.specs.Str.{bytes_eq}
-use Rattle.std.proofs.lemmas.Bool.{or_left, or_right}
+use Rattle.std.proofs.lemmas.Bool.{and_parts, or_left, or_right}
+use Rattle.opc_names.specs.declared.auth.Auth.{Auth}
+use Rattle.opc_names.specs.declared.auth.Auth.TheVariants.{All, Cons, Info, Io, IoCons, Master, Sys, SysCons, SysIo, SysIoCons}
 use Rattle.opc_policy.proofs.MostSpecific.{of_filter, to_filter}
 use Rattle.opc_policy_members.specs.declared.connect.Connect.{Connect}
 use Rattle.opc_policy_members.specs.declared.entry.Entry.{Entry}
@@ -42,11 +44,23 @@ use Rattle.opc_policy_members.specs.declared.user.User.{User}
 use Rattle.opc_policy_members.specs.Members.{user_of}
 use Rattle.opc_policy_members.specs.Taken.{has_group, has_holder, has_user}
 use Rattle.opc_board.specs.declared.rows.ConsoleRow.{ConsoleRow}
-use Rattle.opc_board.specs.Invariants.{Name}
+use Rattle.opc_board.specs.declared.rows.UnitKind.{UnitKind}
+use Rattle.opc_board.specs.declared.rows.UnitKind.TheVariants.{Job, Stc, Tsu}
+use Rattle.opc_board.specs.declared.rows.UnitRow.{UnitRow}
+use Rattle.opc_board.specs.Invariants.{Name, is_master, is_master_auth, unit_at}
+use Rattle.opc_board.specs.Replies.{is_session}
 use Rattle.opc_board.specs.Units.{is_holder}
 use Rattle.opc_board.proofs.Names.{is_itself, is_same_name}
 use Rattle.opc_state.specs.Loads.{has_entry, is_named}
-use Rattle.opc_machine_laws.specs.StoredLaws.{ConnectsConnect, IsNamedIn, NamedIsWhoIsNamed, OnIsWhoIsOn, StoredIsWhatIsThere}
+use Rattle.opc_machine_laws.specs.StoredLaws.{
+  ConnectsConnect,
+  IsNamedIn,
+  MastersAreOnline,
+  NamedIsWhoIsNamed,
+  OnIsWhoIsOn,
+  SessionsAreOfTheirUsers,
+  StoredIsWhatIsThere,
+}
 use Rattle.opc_machine_laws.proofs.Changing.{made_of, makes}
 use Rattle.opc_machine_laws.proofs.Keys.{both_true, name_itself, same_name}
 use Rattle.opc_machine_laws.proofs.RowsKept.{any_found}
@@ -89,7 +103,7 @@ user_back p name (u, in_it, is) =
     sym (any_found (λ (v : User). bytes_eq name v.id) p.users)
     ∙ any (λ (v : User). bytes_eq name v.id) p.users u in_it (ap (bytes_eq name) is ∙ name_itself name)
 
-user_found : (p : Policy) (name : List ℕ) (u : User) → user_of p.users name ≡ Some u → Contains p.users u × (u.id ≡ name)
+pub user_found : (p : Policy) (name : List ℕ) (u : User) → user_of p.users name ≡ Some u → Contains p.users u × (u.id ≡ name)
 user_found p name u h = let f = found (λ (v : User). bytes_eq name v.id) p.users u h in (f.0, sym (same_name name u.id f.1))
 
 group_there : (p : Policy) (name : List ℕ) → has_group p name ≡ true → Contains p.groups name
@@ -205,4 +219,44 @@ pub on_is : OnIsWhoIsOn
 on_is user b = (
   λ h. let one = there (λ (c : ConsoleRow). is_holder user c.user) b.consoles h in (one.0, one.1, held_by user one.0.user one.2),
   λ on. any (λ (c : ConsoleRow). is_holder user c.user) b.consoles on.0 on.1 (ap (is_holder user) on.2 ∙ is_itself user),
+)
+
+-- sessions
+
+kind_is : (unit : UnitRow) (kind : UnitKind) → unit.kind ≡ kind → is_session (Some (record unit { kind = kind })) ≡ true → unit.kind ≡ Tsu
+kind_is unit Job at h = absurd (cc)
+kind_is unit (Stc member) at h = absurd (cc)
+kind_is unit Tsu at h = at
+
+pub sessions : SessionsAreOfTheirUsers
+sessions user b = (
+  there_is (unit_at b user) refl,
+  λ one. ap is_session one.1 ∙ ap (λ k. is_session (Some (record one.0 { kind = k }))) one.2,
+)
+  where
+    there_is : (o : Option UnitRow) → unit_at b user ≡ o → is_session (unit_at b user) ≡ true
+        → (unit : UnitRow) × (unit_at b user ≡ Some unit) × (unit.kind ≡ Tsu)
+    there_is None at h = absurd (cc)
+    there_is (Some unit) at h = (unit, at, kind_is unit unit.kind refl (ap is_session (sym at) ∙ h))
+
+-- masters
+
+auth_is : (a : Auth) → is_master_auth a ≡ true → a ≡ Master
+auth_is Master h = refl
+auth_is All h = absurd (cc)
+auth_is Info h = absurd (cc)
+auth_is Sys h = absurd (cc)
+auth_is Io h = absurd (cc)
+auth_is Cons h = absurd (cc)
+auth_is SysIo h = absurd (cc)
+auth_is SysCons h = absurd (cc)
+auth_is IoCons h = absurd (cc)
+auth_is SysIoCons h = absurd (cc)
+
+pub masters : MastersAreOnline
+masters consoles = (
+  λ h. let one = there is_master consoles h in
+      let parts = and_parts one.0.online (is_master_auth one.0.auth) one.2 in
+      (one.0, one.1, parts.0, auth_is one.0.auth parts.1),
+  λ one. any is_master consoles one.0 one.1 (ap (λ x. x && is_master_auth one.0.auth) one.2 ∙ ap is_master_auth one.3),
 )

@@ -1,4 +1,4 @@
--- Worked cases of administration, listings and imports, computed: a small state, and what is asked of it.
+-- Worked cases of administration, listings and imports, computed: a small state, and requests to it.
 use Rattle.std.proofs.Common.{
   ◌≡◌,
   ℕ,
@@ -153,7 +153,7 @@ connects_after o = option_map (λ (s : State). s.policy.connects) (after o)
 abbrev consoles_after : Operation → Option (List ConsoleRow)
 consoles_after o = option_map (λ (s : State). s.board.consoles) (after o)
 
--- who may ask
+-- who may make a request
 
 no_such_console : refused_at (codes "C9") (operation.AddGroup (codes "DAY")) ≡ plainly fault.NoConsole
 no_such_console = refl

@@ -1,4 +1,4 @@
--- For whom consoles act, to those who sit at them.
+-- For whom consoles act, for those who sit at them.
 use Rattle.std.specs.Prelude.{◌≡◌, ◌⊎◌, ℕ, true, false, List, Option, Some, None, codes}
 use Rattle.opc_terms.specs.declared.mode.Mode.TheVariants.{Optional, Auto, Required}
 use Rattle.opc_terms.specs.declared.need.Need.{Need}
@@ -44,15 +44,15 @@ pub record ActsFor (s : State) (console : ConsoleRow) (user : Option (List ℕ))
   pub acts : IsActing s console user
   pub returned : IsAccountedTo s console user
 
--- An AUTO console where nobody is logged on acts for the user of its own name, as if that user were logged on, if such
--- a user is stored,
+-- An unattended AUTO console acts for the user of its own name, as if that user were logged on, if such a user is
+-- stored,
 abbrev pub AutoConsolesActForTheirOwn : Type 0
 AutoConsolesActForTheirOwn =
     (s : State) (console : ConsoleRow) → console.mode ≡ Auto → console.user ≡ None
     → has_user s.policy console.name ≡ true
     → ActsFor s console (Some console.name) × ActsAs s console (record console { user = Some console.name })
 
--- By its authority alone: as an OPTIONAL console where nobody is logged on.
+-- By its authority alone: as an unattended OPTIONAL console.
 pub record ActsAlone (s : State) (console : ConsoleRow) : Type 0 where
   pub logon : logon_denial s console ≡ None
   pub rulings : (need : Need) → ruling s console need ≡ console_ruling console.auth need
@@ -67,7 +67,7 @@ OtherAutoConsolesActAlone =
     (s : State) (console : ConsoleRow) → console.mode ≡ Auto → console.user ≡ None
     → has_user s.policy console.name ≡ false → ActsAlone s console
 
--- An OPTIONAL console where nobody is logged on does the same, whoever is stored.
+-- An unattended OPTIONAL console does the same, whoever is stored.
 abbrev pub OptionalConsolesActAlone : Type 0
 OptionalConsolesActAlone = (s : State) (console : ConsoleRow) → console.mode ≡ Optional → console.user ≡ None
     → ActsAlone s console
@@ -78,7 +78,7 @@ WhoIsOnComesFirst =
     (s : State) (console : ConsoleRow) (user : List ℕ) → console.user ≡ Some user
     → ActsFor s console (Some user) × ActsAs s console (record console { mode = Optional })
 
--- A REQUIRED console where nobody is logged on acts for nobody, whoever is stored.
+-- An unattended REQUIRED console acts for nobody, whoever is stored.
 abbrev pub RequiredConsolesActForNobody : Type 0
 RequiredConsolesActForNobody = (s : State) (console : ConsoleRow)
     → console.mode ≡ Required → console.user ≡ None → ActsFor s console None

@@ -1,4 +1,4 @@
--- What the access machine means to those who administer, list and import.
+-- What the access machine means for those who administer, list and import.
 use Rattle.std.specs.Prelude.{◌≡◌, ◌⊎◌, ◌↔◌, ℕ, ◌+◌, ◌-◌, ◌<◌, ◌≤◌, true, List, [], ◌∷◌, Option, Some, None, Ok}
 use Rattle.std.specs.Prelude.{Contains, codes, filter, map}
 use Rattle.std.specs.List.{slice_get}
@@ -28,13 +28,13 @@ use Rattle.opc_machine.specs.declared.operation.Operation.{Operation}
 use Rattle.opc_machine.specs.Rights.{account_shown, is_special, may_change, profile_shown}
 use Rattle.opc_machine.specs.Rulings.{acting, logon_denial}
 
--- A console may ask: it is there and online, and the logon rule does not deny it.
+-- A console may make a request: it is there and online, and the logon rule does not deny it.
 pub record MayAsk (s : State) (name : List ℕ) (console : ConsoleRow) : Type 0 where
   pub there : console_at s.board name ≡ Some console
   pub online : console.online ≡ true
   pub logon : logon_denial s console ≡ None
 
--- Administration is done only if the policy of that moment gives the right, and does what it states,
+-- Administration is done only if the policy at that time gives the right, and does what it states,
 abbrev pub AdministersOnlyWhereAllowed : Type 0
 AdministersOnlyWhereAllowed =
     (s : State) (moment : ℕ) (name : List ℕ) (o : Operation) (lines : List Line) (why : Option Rule) (new : State)
@@ -132,7 +132,7 @@ ImportsOnlyWhereAllowed =
     → (console : ConsoleRow) × MayAsk s name console × (is_special (acting s console) ≡ true)
     × (IsKeptAgain s batch rows lines new ⊎ IsTakenWhole s batch rows lines new)
 
--- It is done whenever SPECIAL asks: with a new number all rows are taken, unless one is refused,
+-- It is done whenever SPECIAL requests it: with a new number all rows are taken, unless one is refused,
 abbrev pub ImportsWhereverAllowed : Type 0
 ImportsWhereverAllowed =
     (s : State) (moment : ℕ) (name : List ℕ) (batch : ℕ) (rows : List Row) (console : ConsoleRow) (next : State)

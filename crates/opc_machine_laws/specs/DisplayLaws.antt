@@ -1,4 +1,4 @@
--- What displays list, to those who read them.
+-- What displays list, for those who read them.
 use Rattle.std.specs.Prelude.{◌≡◌, ◌↔◌, ℕ, true, List, [], ◌∷◌, Option, Some, Contains, codes, filter, map}
 use Rattle.std.specs.Cmp.Lexicographic.{slice_cmp}
 use Rattle.std.specs.Ordering.{nat_cmp}
@@ -35,8 +35,8 @@ MayBeShown s console words name = (why : Rule) × (ruling s console (record {
   group = Info;
 }) ≡ Allowed why)
 
--- The line of a unit or a console is about it. It is shown if and only if that may be. A plain line, as that of a
--- device or a reply, always is.
+-- The line of a unit or a console is about it. It is shown if and only if the unit or the console may be. A plain line,
+-- as that of a device or a reply, always is.
 pub record AreAbout (s : State) (console : ConsoleRow) : Type 0 where
   pub units : (unit : UnitRow) → (unit_line unit).item ≡ item.Unit unit.name
   pub consoles : (row : ConsoleRow) → (console_line row).item ≡ item.Console row.name
@@ -67,7 +67,7 @@ ListsTheUnit =
     → Contains lines line ↔ ((unit : UnitRow) × (line ≡ unit_line unit) × (unit_at s.board name.value ≡ Some unit)
     × MayBeShown s console (codes "MVS.DISPLAY.JOB") unit.name)
 
--- and D C each console that may be.
+-- and D C each console that may be shown.
 abbrev pub ListsEveryConsole : Type 0
 ListsEveryConsole =
     (s : State) (console : ConsoleRow) (why : Rule) (lines : List Line) (rule : Option Rule) (new : State)

@@ -1,4 +1,4 @@
--- What commands and events leave on the board, to those who look at it afterwards.
+-- What commands and events leave on the board, for those who look at it afterwards.
 use Rattle.std.specs.Prelude.{◌≡◌, ◌≢◌, ◌⊎◌, ℕ, true, false, List, [], ◌∷◌, ◌++◌, Option, Some, None, Contains}
 use Rattle.std.specs.Option.{is_some}
 use Rattle.opc_terms.specs.declared.rule.Rule.{Rule}
@@ -29,7 +29,7 @@ pub record Becomes {K R : Type 0} (old new : K → Option R) (key : K) (change :
   pub changed : change was now
   pub others : (other : K) → other ≢ key → new other ≡ old other
 
--- One comes where none was.
+-- One is added where none was.
 pub record Comes {K R : Type 0} (old new : K → Option R) (key : K) (row : R) : Type 0 where
   pub free : old key ≡ None
   pub here : new key ≡ Some row

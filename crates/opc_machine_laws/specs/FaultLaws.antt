@@ -1,4 +1,4 @@
--- Which fault is answered, to those who are refused.
+-- Which fault is answered, for those who are refused.
 use Rattle.std.specs.Prelude.{◌≡◌, ◌≢◌, ◌⊎◌, ℕ, true, false, List, Option, Some, None, Err}
 use Rattle.opc_names.specs.declared.class.Class.{Class}
 use Rattle.opc_terms.specs.declared.fault.Fault.{Fault}
@@ -69,12 +69,12 @@ abbrev pub LogonFaultsAreAnswered : Type 0
 LogonFaultsAreAnswered = (s : State) (name text : List ℕ) (console : ConsoleRow) (fault : Fault)
     → IsOutOfTurn s name text console fault → IsRefusedBy s (input.Command name text) fault
 
--- To change a profile takes its owner, or SPECIAL; everything else takes SPECIAL.
+-- A profile may be changed by its owner, or by SPECIAL; everything else, by SPECIAL alone.
 abbrev pub missing_right : Option (Class × List ℕ) → Fault
 missing_right None = fault.NotSpecial
 missing_right (Some profile) = fault.NotOwner
 
--- The console may ask, but not for this: the right is missing, whatever else is in the way.
+-- The console may make a request, but not this one: the right is missing, whatever else is in the way.
 abbrev pub LacksRight : State → Input → ConsoleRow → Fault → Type 0
 LacksRight s (input.Admin name o) console returned =
     MayAsk s name console × (may_change s console o ≡ false) × (returned ≡ missing_right (changed_profile o))

@@ -1,4 +1,4 @@
--- What is in the way of commands and events on the board, to those who are refused.
+-- What is in the way of commands and events on the board, for those who are refused.
 use Rattle.std.specs.Prelude.{◌≡◌, ◌⊎◌, Bool, true, false, not, ◌||◌, List, [], ◌∷◌, Option, Some, None, Ok, Err}
 use Rattle.std.specs.Option.{is_none, is_some}
 use Rattle.opc_reader_commands.specs.declared.command.Command.{Command}
@@ -49,8 +49,8 @@ abbrev pub is_used : Option DeviceRow → Bool
 is_used None = false
 is_used (Some device) = is_some device.unit
 
--- What may be in the way of a command, in the order of its report. That the last online console with AUTH MASTER would
--- be lost comes after all of this.
+-- What may be in the way of a command, in the order of its report. The loss of the last online console with AUTH MASTER
+-- is reported after all of these.
 abbrev pub board_obstacles : BoardRows → Command → List (Bool × BoardFault)
 board_obstacles b (command.Cancel name) =
     (is_none (unit_at b name.value), NoUnit)
@@ -106,7 +106,7 @@ pub record LosesMaster (b : BoardRows) (at : Name) (k : Command) (outcome : Boar
   pub lost : (has_master b.consoles ≡ true → has_master new.consoles ≡ true) → ⊥
   pub refused : outcome ≡ Err LastMaster
 
--- Without any of these it acts, unless that would happen.
+-- Without any of these it acts, unless that master would be lost.
 abbrev pub IsDoneOrLosesMaster : BoardRows → Name → Command → BoardOutcome → Type 0
 IsDoneOrLosesMaster b at k outcome = ((act : Done) × (outcome ≡ Ok act)) ⊎ LosesMaster b at k outcome
 

@@ -1,4 +1,4 @@
--- What users hold by access lists, to those who write them.
+-- What users hold by access lists, for those who write them.
 use Rattle.std.specs.Prelude.{
   ◌≡◌,
   ◌⊎◌,
@@ -27,7 +27,7 @@ use Rattle.opc_names.specs.Authority.{includes}
 use Rattle.opc_policy_members.specs.declared.entry.Entry.{Entry}
 use Rattle.opc_policy_members.specs.declared.profile.Profile.{Profile}
 use Rattle.opc_policy_members.specs.declared.user.User.{User}
-use Rattle.opc_policy_members.specs.Access.{entry_level, first_level, highest_level}
+use Rattle.opc_policy_members.specs.Access.{entry_level, first_level, higher_level, highest_level}
 use Rattle.opc_policy_members.specs.Held.{held}
 
 -- An entry is for the user, for a group of the user, or for everyone, which does not include RESTRICTED users.
@@ -42,8 +42,8 @@ pub record Gives (p : Profile) (u : User) (console : Option (List ℕ)) (groups 
   pub for_user : IsForUser u groups e
   pub enough : includes e.level needed ≡ true
 
--- Whoever holds a level above NONE holds it by such an entry, or by the universal access, which RESTRICTED users do not
--- have.
+-- A user who holds a level above NONE holds it by such an entry, or by the universal access, which RESTRICTED users do
+-- not have.
 abbrev pub LevelsAreGiven : Type 0
 LevelsAreGiven =
     (p : Profile) (u : User) (console : Option (List ℕ)) (groups : List (List ℕ)) (needed : Level)
@@ -104,7 +104,29 @@ pub record IsByFirstSource (p : Profile) (u : User) (groups : List (List ℕ)) :
 abbrev pub FirstSourceDecides : Type 0
 FirstSourceDecides = (p : Profile) (u : User) (groups : List (List ℕ)) → IsByFirstSource p u groups
 
--- Of a user's groups each counts: without an entry for the user, the user holds at least what an entry for a group
+-- At a console the user holds the higher of this level and of what the user holds everywhere.
+abbrev pub IsRaisedTo : Profile → User → List ℕ → List (List ℕ) → Level → Type 0
+IsRaisedTo p u console groups l = held p u (Some console) groups ≡ higher_level (held p u None groups) l
+
+-- Among the entries for the console, too, the first source that has a level decides, even if it is NONE; without any
+-- the user holds what the user holds everywhere.
+pub record IsByFirstAtConsole (p : Profile) (u : User) (console : List ℕ) (groups : List (List ℕ)) : Type 0 where
+  pub own : (l : Level) → entry_level p.entries (Some console) u.id ≡ Some l → IsRaisedTo p u console groups l
+  pub group : (l : Level) → entry_level p.entries (Some console) u.id ≡ None
+      → highest_level p.entries (Some console) groups ≡ Some l → IsRaisedTo p u console groups l
+  pub everyone : (l : Level) → u.restricted ≡ false → entry_level p.entries (Some console) u.id ≡ None
+      → highest_level p.entries (Some console) groups ≡ None
+      → entry_level p.entries (Some console) (codes "*") ≡ Some l → IsRaisedTo p u console groups l
+  pub nobody : entry_level p.entries (Some console) u.id ≡ None
+      → highest_level p.entries (Some console) groups ≡ None
+      → (u.restricted ≡ true) ⊎ (entry_level p.entries (Some console) (codes "*") ≡ None)
+      → held p u (Some console) groups ≡ held p u None groups
+
+abbrev pub FirstSourceAtConsoleDecides : Type 0
+FirstSourceAtConsoleDecides = (p : Profile) (u : User) (console : List ℕ) (groups : List (List ℕ))
+    → IsByFirstAtConsole p u console groups
+
+-- Each of a user's groups counts: without an entry for the user, the user holds at least what an entry for a group
 -- gives.
 abbrev pub EachGroupCounts : Type 0
 EachGroupCounts =

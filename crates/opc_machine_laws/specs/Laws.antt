@@ -1,4 +1,4 @@
--- What the access machine means to those who use it.
+-- What the access machine means for those who use it.
 use Rattle.std.specs.Prelude.{
   ◌≡◌,
   ◌⊎◌,
@@ -51,13 +51,13 @@ use Rattle.opc_machine.specs.Rulings.{ruling, logon_denial, logon_ruling, shown}
 use Rattle.opc_machine.specs.Commands.{need_of}
 use Rattle.opc_machine.specs.Machine.{Runs, Step, IsAborted, account_row}
 
--- A line typed at a console is a command that is heard: the console is there and online, and the line reads.
+-- A line typed at a console is a command that is accepted: the console is there and online, and the line can be read.
 pub record IsHeard (s : State) (name text : List ℕ) (console : ConsoleRow) (command : Command) : Type 0 where
   pub there : console_at s.board name ≡ Some console
   pub online : console.online ≡ true
   pub reads : Reads text command
 
--- The policy of this moment allows it: the ruling on what it needs is Allowed.
+-- The current policy allows it: the ruling on what it needs is Allowed.
 pub record IsAllowed (s : State) (name text : List ℕ) (console : ConsoleRow) (command : Command) (why : Rule) : Type
     0 where
   pub heard : IsHeard s name text console command
@@ -75,7 +75,7 @@ pub record Acts (s : State) (console : ConsoleRow) (command : Command) (why : Ru
   pub board : new.board ≡ act.board
   pub policy : new.policy ≡ s.policy
 
--- A command that needs something acts only if the policy of that moment allows it,
+-- A command that needs something acts only if the policy at that time allows it,
 abbrev pub ActsOnlyWhereAllowed : Type 0
 ActsOnlyWhereAllowed =
     (s : State) (moment : ℕ) (name text : List ℕ) (command : Command) (need : Need) (lines : List Line)
@@ -85,7 +85,7 @@ ActsOnlyWhereAllowed =
     → (console : ConsoleRow) × (rule : Rule) × IsAllowed s name text console command rule
     × Acts s console command rule (Done lines why) new
 
--- and whenever it does, unless the board is in the way or the request is aborted.
+-- and whenever it does, unless something on the board is in the way or the request is aborted.
 abbrev pub ActsWhereverAllowed : Type 0
 ActsWhereverAllowed =
     (s : State) (moment : ℕ) (name text : List ℕ) (console : ConsoleRow) (command : Command) (why : Rule)
@@ -99,8 +99,8 @@ abbrev pub IsSession : Command → Type 0
 IsSession k = ((id : Operand (List ℕ)) × (password : Operand (List ℕ)) × (k ≡ command.Logon id password))
     ⊎ (k ≡ command.Logoff)
 
--- Nothing else that is typed is done: only a line that is heard, of a command that needs something, or of LOGON or
--- LOGOFF.
+-- Nothing else that is typed is done: only a line that is accepted, with a command that needs something, or with LOGON
+-- or LOGOFF.
 abbrev pub OnlyWhatIsHeardIsDone : Type 0
 OnlyWhatIsHeardIsDone =
     (s : State) (moment : ℕ) (name text : List ℕ) (lines : List Line) (why : Option Rule) (new : State)
@@ -115,13 +115,13 @@ ListsExactlyWhatMayBeShown =
     (new : State) (acts : Acts s console command why (Done lines rule) new) (line : Line)
     → Contains lines line ↔ (Contains acts.act.lines line × (shown s console line ≡ true))
 
--- The user of this id is stored, and with the SHA-256 of this password; whoever has none knows no password.
+-- The user of this id is stored, and with the SHA-256 of this password; a user without one has no password.
 pub record IsKnown (s : State) (id password : List ℕ) (user : User) : Type 0 where
   pub stored : user_of s.policy.users id ≡ Some user
   pub digest : user.digest ≡ Some (sha256 password)
 
--- A LOGON may admit the user: the line is heard, nobody is logged on, the password is the user's, and the policy of
--- this moment allows it.
+-- A LOGON may admit the user: the line is accepted, nobody is logged on, the password is the user's, and the current
+-- policy allows it.
 pub record IsAdmitted (s : State) (name text : List ℕ) (console : ConsoleRow) (id password : Operand (List ℕ))
     (user : User) (why : Rule) : Type 0 where
   pub heard : IsHeard s name text console (command.Logon id password)
@@ -136,7 +136,7 @@ pub record LogsOn (s : State) (console : ConsoleRow) (id : List ℕ) (why : Rule
   pub board : new.board ≡ logged_on console.name id s.board
   pub policy : new.policy ≡ s.policy
 
--- A user is logged on only if the policy of that moment allows it,
+-- A user is logged on only if the policy at that time allows it,
 abbrev pub LogsOnOnlyWhereAllowed : Type 0
 LogsOnOnlyWhereAllowed =
     (s : State) (moment : ℕ) (name text : List ℕ) (id password : Operand (List ℕ)) (lines : List Line)
@@ -195,7 +195,7 @@ abbrev pub AbortsChangeNothing : Type 0
 AbortsChangeNothing = (s : State) (moment : ℕ) (r : Input) (fault : Fault) (why : Option Rule) (new : State)
     → IsAborted (Refused fault why) → Step s moment r (Refused fault why) new → new ≡ s
 
--- Only two answers abort a request: there was no memory, or the store failed.
+-- Only two answers abort a request: an allocation failed, or the store did.
 abbrev pub AbortsWithoutMemoryOrStore : Type 0
 AbortsWithoutMemoryOrStore = (answer : Answer) → IsAborted answer → (answer ≡ Refused fault.NoMemory None)
     ⊎ (answer ≡ Refused fault.Store None)
@@ -234,7 +234,7 @@ IsNamedBy fault.DeniedProfile why = IsOfProfile Opercmds why
 IsNamedBy fault.DeniedGroup why = IsOfConsole why
 IsNamedBy other why = ⊥
 
--- The policy of this moment denies what the line needs, by this rule.
+-- The current policy denies what the line needs, by this rule.
 pub record IsRuledOut (s : State) (name text : List ℕ) (why : Rule) : Type 0 where
   pub console : ConsoleRow
   pub command : Command
@@ -243,8 +243,8 @@ pub record IsRuledOut (s : State) (name text : List ℕ) (why : Rule) : Type 0 w
   pub needs : need_of s.board command ≡ Some need
   pub denied : ruling s console need ≡ Denied why
 
--- The line is a LOGON of a user with the user's password, where nobody is logged on, and the policy of this moment does
--- not admit that user, by this rule.
+-- The line is a LOGON of a user with the user's password, where nobody is logged on, and the current policy does not
+-- admit that user, by this rule.
 pub record IsKeptOff (s : State) (name text : List ℕ) (why : Rule) : Type 0 where
   pub console : ConsoleRow
   pub id : Operand (List ℕ)
@@ -255,7 +255,7 @@ pub record IsKeptOff (s : State) (name text : List ℕ) (why : Rule) : Type 0 wh
   pub known : IsKnown s id.value password.value user
   pub denied : logon_ruling s console user ≡ Denied why
 
--- The logon rule denies whatever is asked at a console that is there and online.
+-- The logon rule denies every request at a console that is there and online.
 pub record IsShutOut (s : State) (name : List ℕ) (why : Rule) : Type 0 where
   pub console : ConsoleRow
   pub there : console_at s.board name ≡ Some console
@@ -270,14 +270,14 @@ IsDeniedBy s (input.ListAccount name from count) why = IsShutOut s name why
 IsDeniedBy s (input.Import name batch rows) why = IsShutOut s name why
 IsDeniedBy s (input.Event e) why = ⊥
 
--- A refusal for lack of authority names its rule, and that rule denies by the policy of that moment.
+-- A refusal for lack of authority names its rule, and that rule denies by the policy at that time.
 abbrev pub RefusalsOfAuthorityNameTheirRule : Type 0
 RefusalsOfAuthorityNameTheirRule =
     (s : State) (moment : ℕ) (r : Input) (fault : Fault) (why : Option Rule) (new : State) → IsOfAuthority fault
     → Step s moment r (Refused fault why) new
     → (rule : Rule) × (why ≡ Some rule) × IsNamedBy fault rule × IsDeniedBy s r rule
 
--- The board is in the way of a command that the policy of this moment allows by this rule.
+-- Something on the board is in the way of a command that the current policy allows by this rule.
 pub record IsInTheWay (s : State) (name text : List ℕ) (fault : Fault) (why : Rule) : Type 0 where
   pub console : ConsoleRow
   pub command : Command
@@ -297,15 +297,15 @@ RefusalsNameNoOtherRule =
     → Step s moment r (Refused fault (Some why)) new
     → (IsNamedBy fault why × IsDeniedBy s r why) ⊎ IsRefusedByBoard s r fault why
 
--- What the policy of this moment denies, whatever was asked, is answered by that denial and that rule, unless the
--- request is aborted.
+-- What the current policy denies, whatever the request, is answered by that denial and that rule, unless the request is
+-- aborted.
 abbrev pub DenialsAreAnswered : Type 0
 DenialsAreAnswered =
     (s : State) (moment : ℕ) (r : Input) (why : Rule) (answer : Answer) (new : State) → IsDeniedBy s r why
     → Step s moment r answer new
     → IsAborted answer ⊎ ((fault : Fault) × IsNamedBy fault why × (answer ≡ Refused fault (Some why)))
 
--- If the board is in the way of what is allowed, its fault is answered with the rule that allowed it.
+-- If something on the board is in the way of what is allowed, its fault is answered with the rule that allowed it.
 abbrev pub BoardFaultsAreAnswered : Type 0
 BoardFaultsAreAnswered =
     (s : State) (moment : ℕ) (name text : List ℕ) (fault : Fault) (why : Rule) (answer : Answer) (new : State)
@@ -331,7 +331,7 @@ RequestsAreJudgedInTurn =
     (new : State) → Runs s (before ++ r ∷ later) answers new
     → IsJudgedInTurn s before r later answers new
 
--- If nothing is asked, nothing is answered, and nothing changes.
+-- Without a request, nothing is answered, and nothing changes.
 abbrev pub NothingAskedChangesNothing : Type 0
 NothingAskedChangesNothing = (s : State) (answers : List Answer) (new : State)
     → Runs s [] answers new → (answers ≡ []) × (new ≡ s)

@@ -1,4 +1,4 @@
--- What a request leaves as it is, to those who read the account.
+-- What a request leaves as it is, for those who read the account.
 use Rattle.std.specs.Prelude.{◌≡◌, ◌⊎◌, ℕ, true, List, [], ◌∷◌, ◌++◌, Option, Some, None, Ok, Err, codes}
 use Rattle.opc_terms.specs.declared.rule.Rule.{Rule}
 use Rattle.opc_terms.specs.declared.rule.Rule.TheVariants as rule
@@ -56,7 +56,7 @@ abbrev pub WhatIsDoneLeavesRest : Type 0
 WhatIsDoneLeavesRest = (s : State) (moment : ℕ) (r : Input) (lines : List Line) (why : Option Rule) (new : State)
     → Step s moment r (Done lines why) new → LeavesRest s moment r why new
 
--- What the machine is asked is the request, as it was sent.
+-- The machine is asked what the request states, as it was sent.
 abbrev pub IsAskedBy : Request → Input → Type 0
 IsAskedBy (request.Command console text) r = r ≡ input.Command console text
 IsAskedBy (request.Admin console op) r = r ≡ input.Admin console op
@@ -68,7 +68,7 @@ IsAskedBy (request.Event e) r = r ≡ input.Event e
 abbrev pub RequestsAreAsked : Type 0
 RequestsAreAsked = (sent : Request) → IsAskedBy sent (input_of sent)
 
--- A request names the console at which it is asked, and an event none.
+-- A request names the console at which it is made, and an event none.
 abbrev pub IsNamedIn : Input → Option (List ℕ) → Type 0
 IsNamedIn (input.Command name text) console = console ≡ Some name
 IsNamedIn (input.Admin name operation) console = console ≡ Some name
@@ -80,7 +80,7 @@ IsNamedIn (input.Event e) console = console ≡ None
 abbrev pub RequestsNameTheirConsole : Type 0
 RequestsNameTheirConsole = (r : Input) → IsNamedIn r (console_of r)
 
--- A row of the account has the moment, the console or `*`, what came of it and by which rule.
+-- A row of the account has the timestamp, the console or `*`, the outcome and the rule that decided.
 pub record SaysWhat (at : ℕ) (r : Input) (what : List ℕ) (why : Option Rule) (row : AccountRow) : Type 0 where
   pub moment : row.moment ≡ at
   pub console : row.console ≡ text_or (codes "*") (console_of r)
@@ -103,7 +103,7 @@ EventsOnlyDoTheirEffect =
     → Step s moment (input.Event e) (Done lines why) new
     → (act : BoardDone) × Happens s e act (Done lines why) new
 
--- It happens whenever the board lets it, unless it is aborted,
+-- It happens whenever the board allows it, unless it is aborted,
 abbrev pub EventsHappenWhereverPossible : Type 0
 EventsHappenWhereverPossible =
     (s : State) (moment : ℕ) (e : Event) (act : BoardDone) (answer : Answer) (new : State)
@@ -117,7 +117,7 @@ EventFaultsAreAnswered =
     → event_effect s.board e ≡ Err fault → Step s moment (input.Event e) answer new
     → IsAborted answer ⊎ (answer ≡ Refused (board_fault fault) None)
 
--- Whatever is asked and whatever happens: if an online console has AUTH MASTER, one has it afterwards.
+-- Whatever is requested and whatever happens: if an online console has AUTH MASTER, one has it afterwards.
 abbrev pub StepsKeepAMaster : Type 0
 StepsKeepAMaster = (s : State) (moment : ℕ) (r : Input) (answer : Answer) (new : State)
     → Step s moment r answer new → KeepsMaster s new

@@ -1,4 +1,4 @@
--- What commands need, to those who type them.
+-- What commands need, for those who type them.
 use Rattle.std.specs.Prelude.{◌≡◌, ℕ, Bool, true, false, List, ◌∷◌, ◌++◌, Option, Some, None, codes}
 use Rattle.opc_names.specs.declared.auth.Auth.{Auth}
 use Rattle.opc_names.specs.declared.auth.Auth.TheVariants as auth
@@ -19,8 +19,8 @@ use Rattle.opc_board.specs.declared.rows.UnitRow.{UnitRow}
 use Rattle.opc_board.specs.Invariants.{Name, kind_at, unit_at}
 use Rattle.opc_machine.specs.Commands.{need_of}
 
--- A command needs what the table defines: C, FORCE, P and F by the kind of the unit that is there, others whatever is
--- there.
+-- A command needs what the table defines: C, FORCE, P and F by the kind of the unit on the board, the others whatever
+-- is there.
 abbrev pub IsNeeded : BoardRows → Command → Option Need → Type 0
 IsNeeded b (command.Cancel name) needed = needed ≡ need (command.Cancel name) (kind_at b name.value)
 IsNeeded b (command.Force name) needed = needed ≡ need (command.Force name) (kind_at b name.value)

@@ -1,4 +1,4 @@
--- By which number each fault of a line and of the board is reported, to those who look it up.
+-- By which number each fault of a line and of the board is reported, for those who look it up.
 use Rattle.std.specs.Prelude.{◌≡◌, ◌++◌, ℕ, List, codes}
 use Rattle.std.specs.Fmt.{decimal}
 use Rattle.opc_names.specs.Spellings.{two_digits}
@@ -11,7 +11,7 @@ use Rattle.opc_board.specs.declared.fault.BoardFault.{BoardFault}
 use Rattle.opc_board.specs.declared.fault.BoardFault.TheVariants as board
 use Rattle.opc_machine.specs.Faults.{board_fault, line_fault}
 
--- the number of what is in the way on the board; for refused memory that of a request that is aborted
+-- the number of what is in the way on the board; for a failed allocation, that of a request that is aborted
 abbrev pub board_number : BoardFault → List ℕ
 board_number board.NoUnit = codes "E30"
 board_number board.NonCancelable = codes "E31"
@@ -29,7 +29,7 @@ board_number board.WrongKind = codes "E42"
 board_number board.ReplyExists = codes "E45"
 board_number board.NoMemory = codes "E90"
 
--- of what is wrong with a line, and the text that states where
+-- the number of what is wrong with a line, and the text that states where
 abbrev pub line_number : ReadFault → List ℕ
 line_number line.Empty = codes "E01"
 line_number line.TooLong = codes "E02"

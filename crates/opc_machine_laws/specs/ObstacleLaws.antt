@@ -1,4 +1,4 @@
--- What is in the way of an operation of administration, to those who are refused.
+-- What is in the way of an operation of administration, for those who are refused.
 use Rattle.std.specs.Prelude.{
   ◌≡◌,
   ◌⊎◌,
@@ -82,7 +82,7 @@ abbrev pub ObstaclesAreFaults : Type 0
 ObstaclesAreFaults = (s : State) (o : Operation) (fault : Fault) → first_obstacle (obstacles s o) ≡ Some fault
     → changed s o ≡ Err fault
 
--- Without any it is done, unless the last online console with AUTH MASTER would be lost by it.
+-- Without any it is done, unless that would lose the last online console with AUTH MASTER.
 pub record IsDoneOrLastMaster (s : State) (o : Operation) : Type 0 where
   pub new : State
   pub done : IsDoneTo s o new

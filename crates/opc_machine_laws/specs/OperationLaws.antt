@@ -1,4 +1,4 @@
--- What operations of administration leave in a policy, to those who look at it afterwards.
+-- What operations of administration leave in a policy, for those who look at it afterwards.
 use Rattle.std.specs.Prelude.{◌≡◌, ℕ, false, List, None, Ok}
 use Rattle.std.specs.List.{AllByRecursion}
 use Rattle.opc_names.specs.declared.class.Class.{Class}

@@ -1,4 +1,4 @@
--- How lines are read, to those who type them: a worked example of each command.
+-- How lines are read, for those who type them: a worked example of each command.
 use Rattle.std.specs.Prelude.{◌≡◌, ℕ, List, Ok, codes}
 use Rattle.opc_names.specs.declared.auth.Auth.TheVariants.{SysIo}
 use Rattle.opc_reader_commands.specs.declared.command.Command.{Command}

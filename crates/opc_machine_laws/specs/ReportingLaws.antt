@@ -1,4 +1,4 @@
--- How rules, lines and rows read, and what they are spelled with, to those who read them.
+-- How rules, lines and rows read, and what they are spelled with, for those who read them.
 use Rattle.std.specs.Prelude.{◌≡◌, ℕ, true, false, List, [], ◌∷◌, Option, Some, None, map, codes}
 use Rattle.opc_names.specs.declared.auth.Auth.{Auth}
 use Rattle.opc_names.specs.declared.auth.Auth.TheVariants as auth
@@ -76,12 +76,15 @@ pub record RulesReadSo : Type 0 where
   pub revoked : rule_text rule.Revoked ≡ codes "REVOKED"
   pub no_rule : rule_text_or_none None ≡ codes "-"
 
--- of the words for levels and groups,
+-- of the words for levels, groups, classes and modes,
 pub record WordsReadSo : Type 0 where
   pub levels : map level_text levels_up ≡ codes "NONE" ∷ codes "READ" ∷ codes "UPDATE" ∷ codes "CONTROL" ∷ codes "ALTER"
       ∷ []
   pub groups : map group_text (group.Master ∷ group.Info ∷ group.Sys ∷ group.Io ∷ group.Cons ∷ []) ≡ codes "MASTER"
       ∷ codes "INFO" ∷ codes "SYS" ∷ codes "IO" ∷ codes "CONS" ∷ []
+  pub classes : map class_text (Console ∷ Opercmds ∷ []) ≡ codes "CONSOLE" ∷ codes "OPERCMDS" ∷ []
+  pub modes : map mode_text (mode.Required ∷ mode.Optional ∷ mode.Auto ∷ []) ≡ codes "REQUIRED" ∷ codes "OPTIONAL"
+      ∷ codes "AUTO" ∷ []
 
 -- and of each kind of line.
 pub record LinesReadSo : Type 0 where

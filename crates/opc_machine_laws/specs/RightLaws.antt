@@ -1,4 +1,4 @@
--- Who may administer, see profiles and the account, and import, to those who will.
+-- Who may administer, see profiles and the account, and import.
 use Rattle.std.specs.Prelude.{◌≡◌, ◌⊎◌, ◌↔◌, ℕ, true, List, Option, Some, None}
 use Rattle.opc_names.specs.Authority.{includes}
 use Rattle.opc_names.specs.declared.class.Class.{Class}
@@ -29,7 +29,7 @@ Owns p user None = ⊥
 Owns p user (Some changed) = (profile : Profile) × (profile_of p.profiles changed.0 changed.1 ≡ Some profile)
     × (profile.owner ≡ user.id)
 
--- Whoever acts has SPECIAL, or owns the profile that is changed.
+-- The acting user has SPECIAL, or owns the profile that is changed.
 pub record MayChange (s : State) (console : ConsoleRow) (o : Operation) : Type 0 where
   pub user : User
   pub acts : acting s console ≡ Some user

@@ -1,4 +1,4 @@
--- What the rows of an import do, to those who write them.
+-- What the rows of an import do, for those who write them.
 use Rattle.std.specs.Prelude.{◌≡◌, ◌≢◌, ℕ, Bool, true, false, not, List, [], ◌∷◌, ◌++◌, Option, Some, None, Ok, Err}
 use Rattle.std.specs.List.{AllByRecursion}
 use Rattle.std.specs.Option.{is_some}
@@ -161,14 +161,14 @@ abbrev pub RowsAreTakenWithoutObstacle : Type 0
 RowsAreTakenWithoutObstacle = (row : Row) (old : Policy) → first_obstacle (row_obstacles old row) ≡ None
     → (new : Policy) × (after_row row old ≡ Ok new)
 
--- The first row that has something in its way is refused by the first of that, and all rows with it;
+-- The first row that has an obstacle is refused by its first one, and all rows with it;
 abbrev pub RowObstaclesAreFaults : Type 0
 RowObstaclesAreFaults =
     (before : List Row) (row : Row) (more : List Row) (s : State) (reached : Policy) (fault : Fault)
     → AreTaken before s.policy reached → first_obstacle (row_obstacles reached row) ≡ Some fault
     → with_rows (before ++ row ∷ more) s ≡ Err fault
 
--- if none has, they are refused if the last online console with AUTH MASTER would be lost by all of them.
+-- if none has, they are refused if all of them would lose the last online console with AUTH MASTER.
 abbrev pub RowsKeepAMasterOrAreRefused : Type 0
 RowsKeepAMasterOrAreRefused =
     (all : List Row) (s : State) (policy : Policy) (board : BoardRows) → AreTaken all s.policy policy

@@ -1,4 +1,4 @@
--- Why a ruling is what it is, to those on whom it is made.
+-- Why a ruling is what it is, for those on whom it is made.
 use Rattle.std.specs.Prelude.{◌≡◌, ◌⊎◌, ℕ, Bool, true, false, not, ◌&&◌, ◌||◌, List, Option, Some, None}
 use Rattle.opc_names.specs.declared.class.Class.{Class}
 use Rattle.opc_names.specs.declared.class.Class.TheVariants.{Console, Opercmds}
@@ -45,16 +45,16 @@ pub record IsByProfile (s : State) (console : ConsoleRow) (user : User) (class :
 abbrev pub IsUndecided : State → Class → List ℕ → Type 0
 IsUndecided s class resource = (is_active s.policy.active class ≡ false) ⊎ (deciding_in s.policy class resource ≡ None)
 
--- At a REQUIRED console nobody is logged on.
+-- A REQUIRED console is unattended.
 abbrev pub IsUnattended : ConsoleRow → Type 0
 IsUnattended console = (console.mode ≡ Required) × (console.user ≡ None)
 
--- The logon rule denies first if somebody has to be logged on,
+-- The logon rule denies first if somebody must be logged on,
 pub record IsDeniedUnattended (console : ConsoleRow) (denial : Option Rule) : Type 0 where
   pub unattended : IsUnattended console
   pub says : denial ≡ Some rule.LogonRequired
 
--- then if whoever acts is revoked,
+-- then if the acting user is revoked,
 pub record IsDeniedRevoked (s : State) (console : ConsoleRow) (denial : Option Rule) : Type 0 where
   pub attended : IsUnattended console → ⊥
   pub user : User
@@ -78,7 +78,7 @@ pub record IsRuledByLogon (s : State) (console : ConsoleRow) (ruled : Ruling) : 
   pub denied : logon_denial s console ≡ Some why
   pub says : ruled ≡ Denied why
 
--- the profile of OPERCMDS that decides on whoever acts,
+-- the profile of OPERCMDS that decides on the acting user,
 pub record IsRuledByProfile (s : State) (console : ConsoleRow) (need : Need) (ruled : Ruling) : Type 0 where
   pub free : logon_denial s console ≡ None
   pub user : User

@@ -1,4 +1,4 @@
--- Which of two patterns is the more specific, and what patterns cover, to those who write them.
+-- Which of two patterns is the more specific, and what patterns cover, for those who write them.
 use Rattle.std.specs.Prelude.{◌≡◌, ◌≢◌, ℕ, Bool, true, false, List, [], ◌∷◌, ◌++◌, Contains, codes}
 use Rattle.opc_names.specs.declared.token.Token.{Token}
 use Rattle.opc_names.specs.declared.token.Token.TheVariants.{Literal, Percent, Star, Stars}
@@ -18,7 +18,7 @@ pub record IsNarrower (t u : Token) : Type 0 where
   pub within : (text : List ℕ) → StandsFor t text → StandsFor u text
   pub other : t ≢ u
 
--- At the first difference of two patterns, the one comes before whose token stands for less.
+-- At the first difference of two patterns, the one whose token stands for less comes before the other.
 abbrev pub NarrowerComesFirst : Type 0
 NarrowerComesFirst = (common rest others : List Token) (t u : Token) → IsNarrower t u
     → Before (common ++ t ∷ rest) (common ++ u ∷ others)

@@ -1,5 +1,6 @@
--- What is stored, to those who name it.
+-- What is stored, for those who name it.
 use Rattle.std.specs.Prelude.{◌≡◌, ◌⊎◌, ◌↔◌, ℕ, true, List, Some, codes, Contains}
+use Rattle.opc_names.specs.declared.auth.Auth.TheVariants.{Master}
 use Rattle.opc_policy_members.specs.declared.connect.Connect.{Connect}
 use Rattle.opc_policy_members.specs.declared.entry.Entry.{Entry}
 use Rattle.opc_policy_members.specs.declared.policy.Policy.{Policy}
@@ -9,8 +10,10 @@ use Rattle.opc_policy_members.specs.Members.{groups_of, user_of}
 use Rattle.opc_policy_members.specs.Taken.{has_group, has_holder, has_user}
 use Rattle.opc_board.specs.declared.board.BoardRows.{BoardRows}
 use Rattle.opc_board.specs.declared.rows.ConsoleRow.{ConsoleRow}
-use Rattle.opc_board.specs.Invariants.{Name}
-use Rattle.opc_board.specs.Replies.{is_on}
+use Rattle.opc_board.specs.declared.rows.UnitKind.TheVariants.{Tsu}
+use Rattle.opc_board.specs.declared.rows.UnitRow.{UnitRow}
+use Rattle.opc_board.specs.Invariants.{Name, has_master, unit_at}
+use Rattle.opc_board.specs.Replies.{has_session, is_on}
 use Rattle.opc_state.specs.Loads.{is_connected, is_named}
 
 -- A user is stored if one has that id, and a group if its name is there; an entry of an access list may be for either,
@@ -46,3 +49,13 @@ NamedIsWhoIsNamed = (p : Policy) (id : List ℕ) → (is_named p id ≡ true) �
 abbrev pub OnIsWhoIsOn : Type 0
 OnIsWhoIsOn = (user : Name) (b : BoardRows)
     → (is_on user b ≡ true) ↔ ((c : ConsoleRow) × Contains b.consoles c × (c.user ≡ Some user))
+
+-- A user has a session if a unit of that name is one.
+abbrev pub SessionsAreOfTheirUsers : Type 0
+SessionsAreOfTheirUsers = (user : Name) (b : BoardRows)
+    → (has_session user b ≡ true) ↔ ((unit : UnitRow) × (unit_at b user ≡ Some unit) × (unit.kind ≡ Tsu))
+
+-- A master is there if an online console has AUTH MASTER, and no other counts.
+abbrev pub MastersAreOnline : Type 0
+MastersAreOnline = (consoles : List ConsoleRow) → (has_master consoles ≡ true)
+    ↔ ((c : ConsoleRow) × Contains consoles c × (c.online ≡ true) × (c.auth ≡ Master))

@@ -1,4 +1,4 @@
--- What operations of administration and rows of an import make of the state, to those who send them.
+-- What operations of administration and rows of an import make of the state, for those who send them.
 use Rattle.std.specs.Prelude.{◌≡◌, ◌≢◌, ◌↔◌, ℕ, true, false, List, [], ◌∷◌, Option, Some, None, Ok, Err, Contains}
 use Rattle.opc_terms.specs.declared.fault.Fault.TheVariants.{NotEmpty}
 use Rattle.opc_policy_members.specs.declared.policy.Policy.{Policy}

@@ -1,4 +1,4 @@
-//! What commands and events leave on the board, to those who look at it afterwards.
+//! What commands and events leave on the board, for those who look at it afterwards.
 ghost use Rattle.opc_machine_laws.specs.EffectLaws.{CommandsDoWhatTheySay, EventsDoWhatTheySay};
 ghost use Rattle.opc_machine_laws.specs.HindranceLaws.{
   BoardObstaclesAreFaults,
@@ -19,8 +19,8 @@ pub fn events_do_what_they_say()
     ensures { EventsDoWhatTheySay }
 {}
 
-/// A command is refused by the first of what is in its way on the board (E30 to E42), and if nothing is, acts, unless
-/// the last online console with AUTH MASTER would be lost (E41).
+/// A command is refused by the first obstacle on the board (E30 to E42), and if there is none, acts, unless the last
+/// online console with AUTH MASTER would be lost (E41).
 pub fn commands_are_refused_by_what_is_in_their_way()
     ensures refused { BoardObstaclesAreFaults }
     ensures done { CommandsActWithoutObstacle }
@@ -32,7 +32,7 @@ pub fn events_are_refused_by_what_is_in_their_way()
     ensures done { EventsHappenWithoutObstacle }
 {}
 
-/// Whatever is asked and whatever happens: if an online console has AUTH MASTER, one has it afterwards (E41).
+/// Whatever is requested and whatever happens: if an online console has AUTH MASTER, one has it afterwards (E41).
 pub fn steps_keep_a_master()
     ensures { StepsKeepAMaster }
 {}

@@ -1,4 +1,4 @@
-//! What the access machine means to those who use it, each law as what a call without a body ensures.
+//! What the access machine means for those who use it, each law as what a call without a body ensures.
 ghost use Rattle.opc_machine_laws.specs.ChangingLaws.{
   AccountIsPaged,
   AdministersOnlyWhereAllowed,
@@ -76,24 +76,24 @@ ghost use Rattle.opc_machine_laws.specs.TakingLaws.{
   RowsAreTakenInTurn,
 };
 
-/// A command acts only if the written policy of that moment allows it.
+/// A command acts only if the written policy at that time allows it.
 pub fn acts_only_where_allowed()
     ensures { ActsOnlyWhereAllowed }
 {}
 
-/// A command acts if the written policy of that moment allows it, unless the board is in the way or the request is
-/// aborted.
+/// A command acts if the written policy at that time allows it, unless something on the board is in the way or the
+/// request is aborted.
 pub fn acts_wherever_allowed()
     ensures { ActsWhereverAllowed }
 {}
 
-/// Nothing else that is typed is done: only a line that is heard, of a command that needs something, or of LOGON or
-/// LOGOFF.
+/// Nothing else that is typed is done: only a line that is accepted, with a command that needs something, or with LOGON
+/// or LOGOFF.
 pub fn only_what_is_heard_is_done()
     ensures { OnlyWhatIsHeardIsDone }
 {}
 
-/// What a command needs is that of the table, and depends on the kind of the unit that C, FORCE, P and F name.
+/// A command needs what the table states, which for C, FORCE, P and F depends on the kind of the unit that they name.
 pub fn needs_are_of_the_table()
     ensures { NeedsAreOfTheTable }
 {}
@@ -108,12 +108,12 @@ pub fn requests_are_judged_in_turn()
     ensures { RequestsAreJudgedInTurn }
 {}
 
-/// If nothing is asked, nothing is answered, and nothing changes.
+/// Without a request, nothing is answered, and nothing changes.
 pub fn nothing_asked_changes_nothing()
     ensures { NothingAskedChangesNothing }
 {}
 
-/// A unit's or a console's line is listed if and only if the written policy of that moment lets it be shown.
+/// A unit's or a console's line is listed if and only if the written policy at that time lets it be shown.
 pub fn lists_exactly_what_may_be_shown()
     ensures { ListsExactlyWhatMayBeShown }
 {}
@@ -145,13 +145,13 @@ pub fn displays_list_each_once()
     ensures consoles { ListsEachConsoleOnce }
 {}
 
-/// A user is logged on only if nobody is logged on there, the password is the user's, and the written policy of that
-/// moment allows it.
+/// A user is logged on only if nobody is logged on there, the password is the user's, and the written policy at that
+/// time allows it.
 pub fn logs_on_only_where_allowed()
     ensures { LogsOnOnlyWhereAllowed }
 {}
 
-/// A user is logged on if all that holds, unless the request is aborted.
+/// A user is logged on if all of this holds, unless the request is aborted.
 pub fn logs_on_wherever_allowed()
     ensures { LogsOnWhereverAllowed }
 {}
@@ -166,18 +166,18 @@ pub fn logs_off_wherever_somebody_is_on()
     ensures { LogsOffWhereverSomebodyIsOn }
 {}
 
-/// Administration is done only if the written policy of that moment gives the right.
+/// Administration is done only if the written policy at that time gives the right.
 pub fn administers_only_where_allowed()
     ensures { AdministersOnlyWhereAllowed }
 {}
 
-/// Administration is done if the written policy of that moment gives the right, unless something is in the way or the
+/// Administration is done if the written policy at that time gives the right, unless something is in the way or the
 /// request is aborted.
 pub fn administers_wherever_allowed()
     ensures { AdministersWhereverAllowed }
 {}
 
-/// The right to administer: of SPECIAL, or of the owner of the profile that is altered, deleted or permitted.
+/// The right to administer is that of SPECIAL, or of the owner of the profile that is altered, deleted or permitted.
 pub fn rights_are_of_special_and_owners()
     ensures { RightsAreOfSpecialAndOwners }
 {}
@@ -189,19 +189,19 @@ pub fn operations_do_what_they_say()
     ensures master { OperationsKeepAMaster }
 {}
 
-/// Each operation is refused by the first of what is in its way (E52, E53, E55), and if nothing is, is done, unless the
-/// last online console with AUTH MASTER would be lost (E41).
+/// Each operation is refused by its first obstacle (E52, E53, E55), and if there is none, is done, unless the last
+/// online console with AUTH MASTER would be lost (E41).
 pub fn operations_are_refused_by_what_is_in_their_way()
     ensures refused { ObstaclesAreFaults }
     ensures done { OperationsAreDoneWithoutObstacle }
 {}
 
-/// A profile's line is listed if and only if the written policy of that moment lets it be shown.
+/// A profile's line is listed if and only if the written policy at that time lets it be shown.
 pub fn lists_exactly_profiles_shown()
     ensures { ListsExactlyProfilesShown }
 {}
 
-/// Profiles are listed if somebody may ask, unless the request is aborted.
+/// Profiles are listed if the console may make a request, unless the request is aborted.
 pub fn lists_profiles_wherever_asked()
     ensures { ListsProfilesWhereverAsked }
 {}
@@ -216,7 +216,7 @@ pub fn more_specific_profiles_come_first()
     ensures { MoreSpecificProfilesComeFirst }
 {}
 
-/// The account is listed only if the written policy of that moment lets it be shown.
+/// The account is listed only if the written policy at that time lets it be shown.
 pub fn lists_account_only_where_shown()
     ensures { ListsAccountOnlyWhereShown }
 {}
@@ -237,7 +237,7 @@ pub fn account_is_seen_by_auditors()
     ensures { AccountIsSeenByAuditors }
 {}
 
-/// Anything is imported only if whoever acts has SPECIAL.
+/// Anything is imported only if the acting user has SPECIAL.
 pub fn imports_are_of_special()
     ensures { ImportsAreOfSpecial }
 {}
@@ -247,12 +247,12 @@ pub fn imports_only_where_allowed()
     ensures { ImportsOnlyWhereAllowed }
 {}
 
-/// An import with a new number is done if SPECIAL asks, unless a row is refused or the request is aborted,
+/// An import with a new number is done for SPECIAL, unless a row is refused or the request is aborted,
 pub fn imports_wherever_allowed()
     ensures { ImportsWhereverAllowed }
 {}
 
-/// and one that is stored with the same rows changes nothing.
+/// and one whose number is stored with the same rows changes nothing.
 pub fn repeats_wherever_allowed()
     ensures { RepeatsWhereverAllowed }
 {}
@@ -267,7 +267,7 @@ pub fn rows_are_taken_in_turn()
     ensures { RowsAreTakenInTurn }
 {}
 
-/// A first policy is taken as these rows are, and only if no user is stored (E57).
+/// A first policy is taken like these rows, and only if no user is stored (E57).
 pub fn first_policies_are_first()
     ensures { FirstPoliciesAreFirst }
 {}
@@ -287,13 +287,13 @@ pub fn aborts_change_nothing()
     ensures { AbortsChangeNothing }
 {}
 
-/// A request is aborted if memory is refused (E90) or because the store failed (E91), and is answered like that.
+/// A request is aborted only if an allocation (E90) or the store (E91) failed, and is answered like that.
 pub fn aborts_without_memory_or_store()
     ensures { AbortsWithoutMemoryOrStore }
 {}
 
 /// A refusal for lack of authority names its rule, a profile, a console's group or the logon rule, and that rule denies
-/// by the written policy of that moment.
+/// by the written policy at that time.
 pub fn refusals_of_authority_name_their_rule()
     ensures { RefusalsOfAuthorityNameTheirRule }
 {}
@@ -303,18 +303,17 @@ pub fn refusals_name_no_other_rule()
     ensures { RefusalsNameNoOtherRule }
 {}
 
-/// What the written policy of that moment denies is answered by that denial and its rule, unless the request is
-/// aborted.
+/// What the written policy at that time denies is answered by that denial and its rule, unless the request is aborted.
 pub fn denials_are_answered()
     ensures { DenialsAreAnswered }
 {}
 
-/// If the board is in the way of what is allowed, its fault is answered with the rule that allowed it.
+/// If something on the board is in the way of what is allowed, its fault is answered with the rule that allowed it.
 pub fn board_faults_are_answered()
     ensures { BoardFaultsAreAnswered }
 {}
 
-/// At a console that is not there (E10) or offline (E11) nothing is asked.
+/// At a console that is not there (E10) or offline (E11), requests are refused.
 pub fn missing_consoles_are_answered()
     ensures missing { MissingConsolesAreAnswered }
     ensures offline { OfflineConsolesAreAnswered }
@@ -337,14 +336,14 @@ pub fn logon_faults_are_answered()
     ensures { LogonFaultsAreAnswered }
 {}
 
-/// If the right is missing, that alone is answered, whatever else is in the way: that only SPECIAL may (E50), or only
-/// the owner of the profile too (E51).
+/// If the right is missing, only that is answered, whatever else is in the way: that only SPECIAL may (E50), or besides
+/// it only the owner of the profile (E51).
 pub fn missing_rights_are_answered()
     ensures { MissingRightsAreAnswered }
 {}
 
-/// If the right is there, what is in the way of the change or of a row is answered, and of a batch that is stored with
-/// other rows that it is (E56).
+/// If the right is there, what is in the way of the change or of a row is answered, and for a number that is stored
+/// with other rows, that it is (E56).
 pub fn what_is_in_the_way_is_answered()
     ensures administration { AdministrationFaultsAreAnswered }
     ensures rows { ImportFaultsAreAnswered }
@@ -357,12 +356,12 @@ pub fn what_is_done_leaves_the_rest()
     ensures { WhatIsDoneLeavesRest }
 {}
 
-/// A row of the account has the moment, the console, what came of it and by which rule.
+/// A row of the account has the timestamp, the console, the outcome and the rule that decided.
 pub fn account_rows_say()
     ensures { AccountRowsSay }
 {}
 
-/// A request names the console at which it is asked, and an event none.
+/// A request names the console at which it is made, and an event none.
 pub fn requests_name_their_console()
     ensures { RequestsNameTheirConsole }
 {}
@@ -372,7 +371,7 @@ pub fn events_only_do_their_effect()
     ensures { EventsOnlyDoTheirEffect }
 {}
 
-/// It happens if the board lets it, unless it is aborted,
+/// It happens if the board allows it, unless it is aborted,
 pub fn events_happen_wherever_possible()
     ensures { EventsHappenWhereverPossible }
 {}

@@ -1,4 +1,4 @@
-//! What the access machine means to those who use it.
+//! What the access machine means for those who use it.
 #![tactic(auto)]
 
 pub mod effects;
@@ -6,3 +6,4 @@ pub mod laws;
 pub mod meanings;
 pub mod rows;
 pub mod rulings;
+pub mod spellings;

@@ -1,16 +1,25 @@
-//! What tables, tests and texts mean, to those who read them.
+//! What tables, tests and texts mean, for those who read them.
 ghost use Rattle.opc_machine_laws.specs.DisplayLaws.{BoardsGoByName, CommandsReportTheirLines};
+ghost use Rattle.opc_machine_laws.specs.ExplainingLaws.{
+  ExplanationsForesee,
+  ExplanationsListWhatCovers,
+  ExplanationsReadSo,
+};
 ghost use Rattle.opc_machine_laws.specs.HoldingLaws.{EachGroupCounts, LevelsIncludeThoseBelow};
 ghost use Rattle.opc_machine_laws.specs.LeavingLaws.{RequestsAreAsked};
 ghost use Rattle.opc_machine_laws.specs.NeedLaws.{CommandsNeedSo};
+ghost use Rattle.opc_machine_laws.specs.NewStateLaws.{NewStatesAreEmpty, NumbersSuffice};
 ghost use Rattle.opc_machine_laws.specs.NumberLaws.{FaultsHaveTheirNumbers};
+ghost use Rattle.opc_machine_laws.specs.OrderLaws.{MembersGoByName, PatternsGoSo};
 ghost use Rattle.opc_machine_laws.specs.ReadingLaws.{LinesAreReadSo};
 ghost use Rattle.opc_machine_laws.specs.RowLaws.{BatchesAreKept};
 ghost use Rattle.opc_machine_laws.specs.SpecificLaws.{NarrowerComesFirst, PatternsCoverSo};
 ghost use Rattle.opc_machine_laws.specs.StoredLaws.{
   ConnectsConnect,
+  MastersAreOnline,
   NamedIsWhoIsNamed,
   OnIsWhoIsOn,
+  SessionsAreOfTheirUsers,
   StoredIsWhatIsThere,
 };
 ghost use Rattle.opc_machine_laws.specs.ReportingLaws.{
@@ -22,12 +31,13 @@ ghost use Rattle.opc_machine_laws.specs.ReportingLaws.{
   WordsReadSo,
 };
 
-/// What each command needs: a group, a level and a resource, which names the unit that is there.
+/// What each command needs: a group, a level and a resource, which names the unit as it is on the board.
 pub fn commands_need_so()
     ensures { CommandsNeedSo }
 {}
 
-/// At the first difference of two patterns, the one comes before whose character, `%`, `*` or `**` stands for less.
+/// At the first difference of two patterns, the one whose character, `%`, `*` or `**` stands for less comes before the
+/// other.
 pub fn narrower_patterns_come_first()
     ensures { NarrowerComesFirst }
 {}
@@ -37,7 +47,7 @@ pub fn patterns_cover_so()
     ensures { PatternsCoverSo }
 {}
 
-/// Of a user's groups each counts: a user without an own entry holds at least what an entry for a group gives.
+/// Each of a user's groups counts: without an entry of their own users hold at least what an entry for a group gives.
 pub fn each_group_counts()
     ensures { EachGroupCounts }
 {}
@@ -48,12 +58,21 @@ pub fn levels_include_those_below()
 {}
 
 /// What is treated as stored is stored: users, groups and whom entries may be for, connects and the groups of a user,
-/// who is named anywhere, and who is logged on.
+/// who is named anywhere, who is logged on or has a session, and whether an online console has AUTH MASTER.
 pub fn stored_is_what_is_there()
     ensures names { StoredIsWhatIsThere }
     ensures connects { ConnectsConnect }
     ensures named { NamedIsWhoIsNamed }
     ensures on { OnIsWhoIsOn }
+    ensures sessions { SessionsAreOfTheirUsers }
+    ensures masters { MastersAreOnline }
+{}
+
+/// In a new state nothing is stored, no class is active, and the day is not halted; from then on no list is full before
+/// a table has no number left.
+pub fn new_states_are_empty()
+    ensures nothing { NewStatesAreEmpty }
+    ensures room { NumbersSuffice }
 {}
 
 /// A batch that is stored is found by its number from then on, and each other one as before.
@@ -92,7 +111,21 @@ pub fn boards_go_by_name()
     ensures { BoardsGoByName }
 {}
 
-/// What the machine is asked is the request, as it was sent.
+/// The members of a policy go by their names and ids, and of two patterns the more specific comes first.
+pub fn members_go_by_name()
+    ensures by_name { MembersGoByName }
+    ensures examples { PatternsGoSo }
+{}
+
+/// What is explained to a user at a console is how the user's commands are ruled there, and exactly the patterns that
+/// cover are listed.
+pub fn explanations_foresee()
+    ensures foreseen { ExplanationsForesee }
+    ensures listed { ExplanationsListWhatCovers }
+    ensures example { ExplanationsReadSo }
+{}
+
+/// The machine is asked what the request states, as it was sent.
 pub fn requests_are_asked()
     ensures { RequestsAreAsked }
 {}

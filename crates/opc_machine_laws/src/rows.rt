@@ -1,4 +1,4 @@
-//! What the rows of an import do, and operations of administration, to those who look at the policy afterwards.
+//! What the rows of an import and the operations of administration do, for those who look at the policy afterwards.
 ghost use Rattle.opc_machine_laws.specs.OperationLaws.{OperationsChangeWhatTheyName};
 ghost use Rattle.opc_machine_laws.specs.RowLaws.{
   ConsolesAreDefined,
@@ -26,16 +26,16 @@ pub fn rows_never_delete()
     ensures { RowsNeverDelete }
 {}
 
-/// Rows are refused by the first thing that is in the way of the first such row (E52, E53), and if nothing is, only if
-/// the last online console with AUTH MASTER would be lost by all of them (E41).
+/// Rows are refused by the first obstacle of the first row that has one (E52, E53), and if none has, only if the last
+/// online console with AUTH MASTER would be lost by all of them (E41).
 pub fn rows_are_refused_by_their_first_obstacle()
     ensures taken { RowsAreTakenWithoutObstacle }
     ensures refused { RowObstaclesAreFaults }
     ensures master { RowsKeepAMasterOrAreRefused }
 {}
 
-/// An operation that defines, alters or permits leaves what such a row leaves, and one that deletes nothing of what it
-/// names; all else stays.
+/// An operation that defines, alters or permits leaves what such a row leaves, and one that deletes leaves nothing of
+/// what it names; all else stays.
 pub fn operations_change_what_they_name()
     ensures { OperationsChangeWhatTheyName }
 {}

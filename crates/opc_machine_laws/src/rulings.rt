@@ -1,5 +1,5 @@
-//! Why something is ruled as it is, what a user holds, and for whom a console acts. Each law is what a call without a
-//! body ensures.
+//! Why a ruling is what it is, what a user holds, and for whom a console acts. Each law is what a call without a body
+//! ensures.
 ghost use Rattle.opc_machine_laws.specs.ActingLaws.{
   AutoConsolesActForTheirOwn,
   OptionalConsolesActAlone,
@@ -12,24 +12,26 @@ ghost use Rattle.opc_machine_laws.specs.HoldingLaws.{
   ConsoleEntriesRaise,
   ConsolesNeverLower,
   EntriesCountAtTheirConsole,
+  FirstSourceAtConsoleDecides,
   FirstSourceDecides,
   LevelsAreGiven,
   RestrictedUsersAreNamed,
 };
 ghost use Rattle.opc_machine_laws.specs.RulingLaws.{LogonRuleSaysWhy, LogonRulingsSayWhy, RulingsSayWhy};
 
-/// The logon rule denies if nobody is logged on at a REQUIRED console, and then if whoever acts is revoked.
+/// The logon rule denies if nobody is logged on at a REQUIRED console, and then if the acting user is revoked.
 pub fn logon_rule_says_why()
     ensures { LogonRuleSaysWhy }
 {}
 
-/// A ruling is that of the logon rule, else that of the profile of OPERCMDS that decides on whoever acts, else that of
-/// the console's authority.
+/// A ruling is that of the logon rule, else that of the profile of OPERCMDS that decides on the acting user, else that
+/// of the console's authority.
 pub fn rulings_say_why()
     ensures { RulingsSayWhy }
 {}
 
-/// Whoever logs on is refused if revoked, then ruled on by the profile of CONSOLE that decides, and otherwise admitted.
+/// A user who logs on is refused if revoked, then ruled on by the profile of CONSOLE that decides, and otherwise
+/// admitted.
 pub fn logon_rulings_say_why()
     ensures { LogonRulingsSayWhy }
 {}
@@ -54,7 +56,7 @@ pub fn entries_count_at_their_console()
     ensures { EntriesCountAtTheirConsole }
 {}
 
-/// A RESTRICTED user has nothing of what is given everyone: neither by `*` nor by universal access.
+/// A RESTRICTED user has nothing of what is given to everyone: neither by `*` nor by universal access.
 pub fn restricted_users_are_named()
     ensures { RestrictedUsersAreNamed }
 {}
@@ -65,7 +67,12 @@ pub fn the_first_source_decides()
     ensures { FirstSourceDecides }
 {}
 
-/// An AUTO console where nobody is logged on acts for the user of its own name,
+/// Of the entries for one console, too, the first source decides what a user is raised to there.
+pub fn the_first_source_at_a_console_decides()
+    ensures { FirstSourceAtConsoleDecides }
+{}
+
+/// An unattended AUTO console acts for the user of its own name,
 pub fn auto_consoles_act_for_their_own()
     ensures { AutoConsolesActForTheirOwn }
 {}
@@ -75,12 +82,12 @@ pub fn other_auto_consoles_act_alone()
     ensures { OtherAutoConsolesActAlone }
 {}
 
-/// An OPTIONAL console where nobody is logged on acts for nobody.
+/// An unattended OPTIONAL console acts for nobody.
 pub fn optional_consoles_act_alone()
     ensures { OptionalConsolesActAlone }
 {}
 
-/// A REQUIRED console where nobody is logged on acts for nobody.
+/// An unattended REQUIRED console acts for nobody.
 pub fn required_consoles_act_for_nobody()
     ensures { RequiredConsolesActForNobody }
 {}
@@ -90,7 +97,7 @@ pub fn who_is_on_comes_first()
     ensures { WhoIsOnComesFirst }
 {}
 
-/// What is asked at no console, or at one that is not there, is accounted to nobody.
+/// A request at no console, or at one that is not there, is accounted to nobody.
 pub fn others_are_accounted_to_nobody()
     ensures { OthersAreAccountedToNobody }
 {}

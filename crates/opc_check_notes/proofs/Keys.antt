@@ -37,7 +37,7 @@ four Equal Equal Equal d = refl
 and_so : {a b c d : Bool} → a ≡ b → c ≡ d → (a && c) ≡ (b && d)
 and_so {a} {b} {c} {d} one other = ap (λ x. x && c) one ∙ ap (λ x. b && x) other
 
--- the id is compared first, and said third
+-- the id is compared first, and named third
 id_third : (i c p w : Bool) → (i && (c && (p && w))) ≡ (c && (p && (i && w)))
 id_third true c p w = refl
 id_third false true true w = refl

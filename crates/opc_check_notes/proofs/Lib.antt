@@ -4,6 +4,7 @@ pub mod OfKind
 pub mod Placing
 pub mod Rising
 pub mod Steps
+pub mod ByPlace
 pub mod Earliest
 pub mod Floats
 pub mod OfCode

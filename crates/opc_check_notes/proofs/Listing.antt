@@ -62,7 +62,7 @@ use Rattle.std.proofs.lemmas.List.Sorted.{length_permutation, list_any-IsPermuta
 use Rattle.std.proofs.lemmas.Cmp.{nat_list_cmp_total}
 use Rattle.std.proofs.lemmas.Map.Text.{is_eq-slice_cmp}
 use Rattle.opc_policy_members.specs.Members.{name_cmp}
-use Rattle.opc_check_notes.specs.Lists.{at_key}
+use Rattle.opc_check_notes.specs.SortedPairs.{at_key}
 use Rattle.opc_check_notes.specs.Named.{is_name}
 
 -- ---- what a stable sort by keys leaves of a key

@@ -6,7 +6,7 @@ use Rattle.std.specs.List.{list_any}
 use Rattle.opc_names.specs.declared.class.Class.{Class}
 use Rattle.opc_policy_members.specs.declared.row.Row.{Row}
 use Rattle.opc_policy_members.specs.declared.row.Row.TheVariants as rows
-use Rattle.opc_check_notes.specs.declared.kinds.RowKind.TheVariants as kind
+use Rattle.opc_import.specs.declared.kind.Kind.TheVariants as kind
 use Rattle.opc_check_notes.specs.declared.numbered.NumberedRow.{NumberedRow}
 use Rattle.opc_check_notes.specs.Kinds.{is_of, of_kind}
 use Rattle.opc_check_notes.proofs.OfKind.{others_fail, others_give_none}

@@ -9,7 +9,7 @@ use Rattle.opc_policy_members.specs.declared.row.Row.{Row}
 use Rattle.opc_policy_members.specs.declared.row.Row.TheVariants as rows
 use Rattle.opc_check_notes.specs.declared.connects.Side.{Side}
 use Rattle.opc_check_notes.specs.declared.connects.Side.TheVariants as side
-use Rattle.opc_check_notes.specs.declared.kinds.RowKind.TheVariants as kind
+use Rattle.opc_import.specs.declared.kind.Kind.TheVariants as kind
 use Rattle.opc_check_notes.specs.declared.names.Given.{Given}
 use Rattle.opc_check_notes.specs.declared.names.Given.TheVariants as given
 use Rattle.opc_check_notes.specs.declared.numbered.NumberedRow.{NumberedRow}

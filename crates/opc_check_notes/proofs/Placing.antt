@@ -15,18 +15,18 @@ use Rattle.opc_names.specs.declared.level.Level.{Level}
 use Rattle.opc_policy_members.specs.Members.{name_cmp}
 use Rattle.opc_policy_members.specs.declared.row.Row.{Row}
 use Rattle.opc_policy_members.specs.declared.row.Row.TheVariants as rows
-use Rattle.opc_check_notes.specs.contracts.entries.PlaceOrd.TheImpl.{ghosts}
+use Rattle.opc_check_notes.specs.contracts.entries.EntryPlaceOrd.TheImpl.{ghosts}
 use Rattle.opc_check_notes.specs.declared.connects.Side.{Side}
 use Rattle.opc_check_notes.specs.declared.effect.Kept.{Kept}
 use Rattle.opc_check_notes.specs.declared.effect.RowKey.TheVariants as key
-use Rattle.opc_check_notes.specs.declared.entries.Place.{Place}
+use Rattle.opc_check_notes.specs.declared.entries.EntryPlace.{EntryPlace}
 use Rattle.opc_check_notes.specs.declared.names.Given.TheVariants as given
 use Rattle.opc_check_notes.specs.declared.numbered.NumberedRow.{NumberedRow}
 use Rattle.opc_check_notes.specs.Connects.{HasPartners, connects, number_at, pair, pairs}
 use Rattle.opc_check_notes.specs.Entries.{HasPlaced, all_placed, placed, placed_by, same_place}
 use Rattle.opc_check_notes.specs.First.{first_of, paired}
 use Rattle.opc_check_notes.specs.Levels.{kept_at}
-use Rattle.opc_check_notes.specs.Lists.{at_key}
+use Rattle.opc_check_notes.specs.SortedPairs.{at_key}
 use Rattle.opc_check_notes.specs.Named.{HasNames}
 use Rattle.opc_check_notes.proofs.Keys.{of_class, of_option}
 
@@ -105,16 +105,16 @@ three Equal Equal c = refl
 and_so : {a b c d : Bool} → a ≡ b → c ≡ d → (a && c) ≡ (b && d)
 and_so {a} {b} {c} {d} one other = ap (λ x. x && c) one ∙ ap (λ x. b && x) other
 
-places_so : (a b : Place) → is_eq (ghosts.cmp a b) ≡ same_place a b
+places_so : (a b : EntryPlace) → is_eq (ghosts.cmp a b) ≡ same_place a b
 places_so a b =
     three (classes.cmp a.class b.class) (slice_cmp nat_cmp a.pattern b.pattern) (option_cmp (slice_cmp nat_cmp) a.when b.when)
     ∙ and_so (of_class a.class b.class) (and_so (is_eq-slice_cmp a.pattern b.pattern) (of_option a.when b.when))
 
-pub has_placed : (list : List NumberedRow) (found kept : List (Place × List ℕ)) → found ≡ all_placed list
-    → ((place : Place) → at_key ghosts.cmp place kept ≡ at_key ghosts.cmp place found) → HasPlaced list kept
+pub has_placed : (list : List NumberedRow) (found kept : List (EntryPlace × List ℕ)) → found ≡ all_placed list
+    → ((place : EntryPlace) → at_key ghosts.cmp place kept ≡ at_key ghosts.cmp place found) → HasPlaced list kept
 has_placed list found kept is same place =
-    ap (map (λ (p : Place × List ℕ). p.1)) (same place ∙ ap (at_key ghosts.cmp place) is
-    ∙ filter_agree _ _ (λ (p : Place × List ℕ). places_so p.0 place) (all_placed list))
+    ap (map (λ (p : EntryPlace × List ℕ). p.1)) (same place ∙ ap (at_key ghosts.cmp place) is
+    ∙ filter_agree _ _ (λ (p : EntryPlace × List ℕ). places_so p.0 place) (all_placed list))
 
 one_placed : (list : List NumberedRow) (members : List (List ℕ)) → HasNames list given.ConnectedGroup members → (row : Row)
     → placed_by members row ≡ placed list row
@@ -135,7 +135,7 @@ placed_so list members has (x ∷ xs) =
     ∙ ap (cons_option (placed list x.row)) (placed_so list members has xs)
 
 pub placed_as : (members : List (List ℕ)) (row : Row) (class : Class) (pattern id : List ℕ) (level : Level) (when : Option (List ℕ))
-    (result : Option (Place × List ℕ)) → row ≡ rows.Permit class pattern id level when
+    (result : Option (EntryPlace × List ℕ)) → row ≡ rows.Permit class pattern id level when
     → result ≡ (if list_any (λ (n : List ℕ). bytes_eq n id) members
     then Some (record { class = class; pattern = pattern; when = when }, id) else None)
     → result ≡ placed_by members row

@@ -1,4 +1,4 @@
--- What is computed of a pattern says whether it is met.
+-- What is computed for a pattern is whether it is met.
 use Rattle.std.proofs.Common.{◌≡◌, ◌⊎◌, inl, inr, Bool, true, false, ◌||◌, ℕ, List, map, refl, ap}
 use Rattle.std.specs.Prelude.{IsTrue, ◌↔◌}
 use Rattle.std.specs.Cmp.{both_ways}

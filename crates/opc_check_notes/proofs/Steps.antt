@@ -97,7 +97,7 @@ filter_map_more : {A B : Type 0} (f : A → Option B) (xs : List A) (i : ℕ) (d
     → filter_map f (take (i + 1) xs) ≡ filter_map f (take i xs) ++ filter_map f (get_or xs i d ∷ [])
 filter_map_more f xs i d low = ap (filter_map f) (take_more xs i d low) ∙ filter_map-append f (take i xs) (get_or xs i d ∷ [])
 
--- ---- what a search that leaves off finds
+-- ---- what a search that stops early finds
 
 first_of-both : {A B : Type 0} (f : A → Option B) (xs ys : List A) → first_of f (xs ++ ys) ≡ option_or (first_of f xs) (first_of f ys)
 first_of-both f [] ys = refl

@@ -8,7 +8,7 @@ use Rattle.opc_check_notes.specs.declared.connects.Side.{Side}
 use Rattle.opc_check_notes.specs.declared.connects.Side.TheVariants as side
 use Rattle.opc_check_notes.specs.declared.numbered.NumberedRow.{NumberedRow}
 use Rattle.opc_check_notes.specs.First.{first_of, paired}
-use Rattle.opc_check_notes.specs.Lists.{at_key}
+use Rattle.opc_check_notes.specs.SortedPairs.{at_key}
 
 -- the user and the group of a connect, the one that it is looked up by first
 abbrev pub pair : Side → Row → Option (List ℕ × List ℕ)

@@ -2,11 +2,11 @@
 use Rattle.std.specs.Prelude.{Bool, true, false, List, filter}
 use Rattle.opc_policy_members.specs.declared.row.Row.{Row}
 use Rattle.opc_policy_members.specs.declared.row.Row.TheVariants as rows
-use Rattle.opc_check_notes.specs.declared.kinds.RowKind.{RowKind}
-use Rattle.opc_check_notes.specs.declared.kinds.RowKind.TheVariants as kind
+use Rattle.opc_import.specs.declared.kind.Kind.{Kind}
+use Rattle.opc_import.specs.declared.kind.Kind.TheVariants as kind
 use Rattle.opc_check_notes.specs.declared.numbered.NumberedRow.{NumberedRow}
 
-abbrev pub is_of : RowKind → Row → Bool
+abbrev pub is_of : Kind → Row → Bool
 is_of kind.Class (rows.Class class active) = true
 is_of kind.Group (rows.Group name) = true
 is_of kind.User (rows.User user) = true
@@ -16,5 +16,5 @@ is_of kind.Profile (rows.Profile class pattern uacc owner warning) = true
 is_of kind.Permit (rows.Permit class pattern id level when) = true
 is_of kind row = false
 
-abbrev pub of_kind : List NumberedRow → RowKind → List NumberedRow
+abbrev pub of_kind : List NumberedRow → Kind → List NumberedRow
 of_kind list kind = filter (λ (at : NumberedRow). is_of kind at.row) list

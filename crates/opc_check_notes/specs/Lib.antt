@@ -5,7 +5,7 @@ pub mod Entries
 pub mod First
 pub mod Kinds
 pub mod Levels
-pub mod Lists
+pub mod SortedPairs
 pub mod Named
 pub mod Met
 pub mod Notes

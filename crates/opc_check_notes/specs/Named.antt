@@ -7,13 +7,13 @@ use Rattle.opc_names.specs.declared.auth.Auth.TheVariants as auth
 use Rattle.opc_terms.specs.declared.mode.Mode.TheVariants as mode
 use Rattle.opc_policy_members.specs.declared.row.Row.{Row}
 use Rattle.opc_policy_members.specs.declared.row.Row.TheVariants as rows
-use Rattle.opc_check_notes.specs.declared.kinds.RowKind.{RowKind}
-use Rattle.opc_check_notes.specs.declared.kinds.RowKind.TheVariants as kind
+use Rattle.opc_import.specs.declared.kind.Kind.{Kind}
+use Rattle.opc_import.specs.declared.kind.Kind.TheVariants as kind
 use Rattle.opc_check_notes.specs.declared.names.Given.{Given}
 use Rattle.opc_check_notes.specs.declared.names.Given.TheVariants as given
 use Rattle.opc_check_notes.specs.declared.numbered.NumberedRow.{NumberedRow}
 
--- The name that a row gives of each kind. SPECIAL and AUDITOR count for nothing of who is revoked.
+-- The name that a row gives of each kind. The SPECIAL and AUDITOR of a revoked user do not count.
 abbrev pub named : Given → Row → Option (List ℕ)
 named given.User (rows.User user) = Some user.id
 named given.Revoked (rows.User user) = if user.revoked then Some user.id else None
@@ -35,7 +35,7 @@ abbrev pub is_named : List NumberedRow → Given → List ℕ → Bool
 is_named list given name = list_any (λ (at : NumberedRow). is_name (named given at.row) name) list
 
 -- the kind of the rows that give a name
-abbrev pub giving : Given → RowKind
+abbrev pub giving : Given → Kind
 giving given.User = kind.User
 giving given.Revoked = kind.User
 giving given.Special = kind.User

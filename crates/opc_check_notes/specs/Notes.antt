@@ -32,8 +32,8 @@ use Rattle.opc_policy_members.specs.declared.row.Row.{Row}
 use Rattle.opc_policy_members.specs.declared.row.Row.TheVariants as rows
 use Rattle.opc_check_notes.specs.declared.effect.RowKey.TheVariants as key
 use Rattle.opc_check_notes.specs.declared.connects.Side.TheVariants as side
-use Rattle.opc_check_notes.specs.declared.kinds.RowKind.{RowKind}
-use Rattle.opc_check_notes.specs.declared.kinds.RowKind.TheVariants as kind
+use Rattle.opc_import.specs.declared.kind.Kind.{Kind}
+use Rattle.opc_import.specs.declared.kind.Kind.TheVariants as kind
 use Rattle.opc_check_notes.specs.declared.names.Given.{Given}
 use Rattle.opc_check_notes.specs.declared.names.Given.TheVariants as given
 use Rattle.opc_check_notes.specs.Met.{is_met}
@@ -73,14 +73,14 @@ no_resource row = None
 
 -- ---- users
 
--- N03: who has no digest gets on at an AUTO console of the user's name alone
+-- N03: a user without a digest acts only at an AUTO console with the user's name
 abbrev pub no_digest : List NumberedRow → Row → Option Finding
 no_digest list (rows.User user) =
     if_so (is_none user.digest && not user.revoked && not (is_named list given.AutoConsole user.id))
     (found.NoDigest user.id)
 no_digest list row = None
 
--- N04: who has the digest of an earlier user
+-- N04: a user who has the digest of an earlier user
 abbrev pub other_with : List ℕ → Option (List ℕ) → Option Finding
 other_with id None = None
 other_with id (Some other) = if_so (not (bytes_eq other id)) (found.SameDigest id other)
@@ -131,7 +131,7 @@ own_below_group list (rows.Permit class pattern id level when) =
     first_of (group_above list (rows.Permit class pattern id level when)) (partners list side.User id)
 own_below_group list row = None
 
--- N16: each user of the group has an own entry, at the same console or at every one
+-- N16: each user of the group has an entry of its own, at the same console or at every one
 abbrev pub has_own : List NumberedRow → Row → List ℕ → Bool
 has_own list (rows.Permit class pattern id level when) user =
     is_some (level_at list (key.Permit user class pattern when))
@@ -206,7 +206,7 @@ finding list code.NoAccess row = no_access list row
 finding list code row = None
 
 -- the kind of the rows that a code is about
-abbrev pub about : NoteCode → RowKind
+abbrev pub about : NoteCode → Kind
 about code.Warning = kind.Profile
 about code.OpenToAll = kind.Profile
 about code.NoDigest = kind.User
@@ -226,7 +226,7 @@ about code.NoResource = kind.Profile
 about code.SpecialConsole = kind.Console
 about code.NoAccess = kind.User
 
--- what is found of no row: what nobody has, and a class of which no row says whether it is active
+-- findings about no row: what nobody has, and a class of which no row says whether it is active
 abbrev pub if_none : List NumberedRow → Given → Finding → List Finding
 if_none list given finding = if count list given == 0 then finding ∷ [] else []
 
@@ -248,7 +248,7 @@ note_at list code at =
 abbrev pub note_of_none : Finding → Note
 note_of_none f = record { row = None; finding = f }
 
--- the notes of a code: of the rows in their order, and last of no row
+-- the notes of a code: about the rows in their order, then about no row
 abbrev pub notes_of : List NumberedRow → NoteCode → List Note
 notes_of list code = filter_map (note_at list code) list ++ map note_of_none (findings list code)
 

@@ -4,7 +4,7 @@ use Rattle.std.specs.List.{fold}
 use Rattle.std.specs.Option.{option_and_then}
 use Rattle.opc_policy_members.specs.declared.row.Row.{Row}
 use Rattle.opc_policy_members.specs.declared.row.Row.TheVariants as rows
-use Rattle.opc_check_notes.specs.declared.entries.Place.{Place}
+use Rattle.opc_check_notes.specs.declared.entries.EntryPlace.{EntryPlace}
 use Rattle.opc_check_notes.specs.declared.numbered.NumberedRow.{NumberedRow}
 use Rattle.opc_check_notes.specs.Connects.{number_at}
 use Rattle.opc_check_notes.specs.declared.groups.Ranked.{Ranked}
@@ -12,7 +12,7 @@ use Rattle.opc_check_notes.specs.declared.note.Finding.{Finding}
 use Rattle.opc_check_notes.specs.Notes.{group_above}
 
 -- where an entry is
-abbrev pub place_of : Row → Option Place
+abbrev pub place_of : Row → Option EntryPlace
 place_of (rows.Permit class pattern id level when) = Some (record { class = class; pattern = pattern; when = when })
 place_of row = None
 

@@ -1,6 +1,5 @@
 -- The texts of notes.
 use Rattle.std.specs.Prelude.{ℕ, List, [], ◌∷◌, ◌++◌, Option, Some, None, codes}
-use Rattle.std.specs.Fmt.{decimal}
 use Rattle.serde_json.specs.Data.{Data, member, no_members, null, number, object, string, unsigned}
 use Rattle.serde_json.specs.Written.{compact_text}
 use Rattle.opc_names.specs.declared.auth.Auth.{Auth}
@@ -55,13 +54,13 @@ code_of (found.NoResource pattern) = code.NoResource
 code_of (found.SpecialConsole console) = code.SpecialConsole
 code_of (found.NoAccess user) = code.NoAccess
 
--- what nobody on enters at a console
+-- what an OPTIONAL console allows without a logon
 abbrev pub opened : Auth → List ℕ
 opened auth.Master = codes "everything"
 opened auth.All = codes "everything but MASTER"
 opened other = auth_text other
 
--- what it means that an active class has no profile
+-- what it means if an active class has no profile
 abbrev pub without_profile : Class → List ℕ
 without_profile Console = codes "every user may log on everywhere"
 without_profile Opercmds = codes "the authority of the console decides"
@@ -71,7 +70,7 @@ finding_text (found.Warning class pattern) =
     codes "profile " ++ (class_text class ++ (codes " " ++ (pattern ++ codes " has WARNING")))
 finding_text (found.OpenToAll class pattern uacc) =
     codes "profile " ++ (class_text class ++ (codes " " ++ (pattern ++ (codes " gives everyone " ++ level_text uacc))))
-finding_text (found.NoDigest user) = user ++ codes " has no digest and no AUTO console: nobody gets on"
+finding_text (found.NoDigest user) = user ++ codes " has no digest and no AUTO console, so cannot log on"
 finding_text (found.SameDigest user other) = user ++ (codes " has the password of " ++ other)
 finding_text (found.EmptyGroup group) = codes "nobody is in group " ++ group
 finding_text (found.RevokedEntry class pattern user) =
@@ -81,7 +80,7 @@ finding_text found.NoSpecial = codes "nobody has SPECIAL"
 finding_text found.NoAuditor = codes "nobody has AUDITOR"
 finding_text found.NoMaster = codes "no console has AUTH MASTER"
 finding_text (found.OpenConsole console auth) =
-    codes "console " ++ (console ++ (codes " is OPTIONAL: nobody on enters " ++ opened auth))
+    codes "console " ++ (console ++ (codes " is OPTIONAL: without a logon it allows " ++ opened auth))
 finding_text (found.NoOwnUser console) =
     codes "console " ++ (console ++ (codes " is AUTO, and there is no user " ++ console))
 finding_text (found.InactiveClass class) = codes "class " ++ (class_text class ++ codes " is inactive")
@@ -98,25 +97,29 @@ finding_text (found.SpecialConsole console) =
     codes "console " ++ (console ++ (codes " is AUTO, and " ++ (console ++ codes " has SPECIAL: no password is asked")))
 finding_text (found.NoAccess user) = user ++ codes " is in no group and no access list"
 
--- a note as a line: its code, the row that it is about, and what was found; 10 is the line feed
-abbrev pub row_text : Option ℕ → List ℕ
-row_text None = codes " "
-row_text (Some row) = codes " row " ++ (decimal row ++ codes ": ")
+-- a note as a line: its code, what names the row that it is about, and what was found; 10 is the line feed
+abbrev pub note_text : (place : List ℕ) → Note → List ℕ
+note_text place note = code_text (code_of note.finding) ++ (place ++ (finding_text note.finding ++ 10 ∷ []))
 
-abbrev pub note_text : Note → List ℕ
-note_text note = code_text (code_of note.finding) ++ (row_text note.row ++ (finding_text note.finding ++ 10 ∷ []))
+-- A note as a JSON object. Its row is null if the note is about none, and its line if that is not known. It has the
+-- fields of its row if that is one of tables.
+abbrev pub number_value : Option ℕ → Data
+number_value None = null
+number_value (Some n) = number (unsigned n)
 
--- a note as a JSON object, whose row is null if the note is about none
-abbrev pub row_value : Option ℕ → Data
-row_value None = null
-row_value (Some row) = number (unsigned row)
-
-abbrev pub note_value : Note → Data
-note_value note =
+abbrev pub note_value : (line : Option ℕ) → (fields : Option (List ℕ)) → Note → Data
+note_value line None note =
     object (member (codes "code") (string (code_text (code_of note.finding)))
-    (member (codes "row") (row_value note.row)
-    (member (codes "text") (string (finding_text note.finding)) no_members)))
+    (member (codes "line") (number_value line)
+    (member (codes "row") (number_value note.row)
+    (member (codes "text") (string (finding_text note.finding)) no_members))))
+note_value line (Some fields) note =
+    object (member (codes "code") (string (code_text (code_of note.finding)))
+    (member (codes "fields") (string fields)
+    (member (codes "line") (number_value line)
+    (member (codes "row") (number_value note.row)
+    (member (codes "text") (string (finding_text note.finding)) no_members)))))
 
 -- on a line
-abbrev pub note_json : Note → List ℕ
-note_json note = compact_text (note_value note) ++ 10 ∷ []
+abbrev pub note_json : (line : Option ℕ) → (fields : Option (List ℕ)) → Note → List ℕ
+note_json line fields note = compact_text (note_value line fields note) ++ 10 ∷ []

@@ -3,10 +3,11 @@ ghost use Rattle.std.specs.Prelude.{◌≡◌, IfOk, filter_map};
 ghost use Rattle.opc_check_notes.specs.declared.numbered.NumberedRow.{NumberedRow as Numbered};
 ghost use Rattle.opc_check_notes.specs.Connects.{HasPartners, pair, pairs};
 
-use crate::kinds::{ByKind, RowKind};
-use crate::lists::{Lists, push_if};
+use crate::kinds::ByKind;
 use crate::names::copied;
 use crate::numbered::NumberedRow;
+use crate::sorted_pairs::{SortedPairs, push_if};
+use opc_import::kind::Kind;
 use opc_names::bytes::Bytes;
 use opc_names::name::{GroupName, UserId};
 use opc_policy_members::row::Row;
@@ -24,7 +25,7 @@ pub enum Side {
 type Pair = (Bytes<8>, EntryId);
 
 /// The groups of each user, or the users of each group.
-pub(crate) type Connects = Lists<Bytes<8>, EntryId>;
+pub(crate) type Partners = SortedPairs<Bytes<8>, EntryId>;
 
 fn group_id(group: &GroupName) -> EntryId
     ensures { result ≡ group.now }
@@ -43,7 +44,7 @@ fn pair(side: Side, row: &Row) -> Option<Pair>
         (Side::Group, Row::Connect { user, group }) => {
             Some((copied(group.text()), EntryId::from(user)))
         }
-        // Only a connect has two.
+        // Only a connect has two ids.
         _ => None,
     }
 }
@@ -61,12 +62,12 @@ fn pairs_among(alloc: Global, rows: &[NumberedRow], side: Side) -> Result<Vec<Pa
 fn pairs(alloc: Global, rows: &ByKind, side: Side) -> Result<Vec<Pair>, AllocError>
     ensures { IfOk result (λ list. list.items ≡ pairs rows.now side) }
 {
-    pairs_among(alloc, rows.of(RowKind::Connect), side)
+    pairs_among(alloc, rows.of(Kind::Connect), side)
 }
 
 /// The groups of each user, or the users of each group, in the order of the connects.
-pub(crate) fn connects(alloc: Global, rows: &ByKind, side: Side) -> Result<Connects, AllocError>
+pub(crate) fn connects(alloc: Global, rows: &ByKind, side: Side) -> Result<Partners, AllocError>
     ensures { IfOk result (HasPartners rows.now side) }
 {
-    Lists::sorted(pairs(alloc, rows, side)?)
+    SortedPairs::sorted(pairs(alloc, rows, side)?)
 }

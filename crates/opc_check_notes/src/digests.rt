@@ -6,8 +6,9 @@ ghost use Rattle.opc_policy_members.specs.Members.{name_cmp};
 ghost use Rattle.opc_check_notes.specs.Digests.{HasDigests, digest_at, digest_of, user_of};
 ghost use Rattle.opc_check_notes.specs.First.{paired};
 
-use crate::kinds::{ByKind, RowKind};
+use crate::kinds::ByKind;
 use crate::numbered::NumberedRow;
+use opc_import::kind::Kind;
 use opc_names::name::UserId;
 use opc_policy_members::row::Row;
 use opc_policy_members::user::User;
@@ -40,7 +41,7 @@ fn keep(digests: &mut Digests, digest: [u8; 32], user: UserId) -> Result<(), All
     Ok(())
 }
 
-/// Keeps a user at the own digest, if there is one.
+/// Keeps a user at the user's digest, if there is one.
 #[tactic(auto, using(crate::proofs::Steps::or_none))]
 fn keep_user(digests: &mut Digests, user: &User) -> Result<(), AllocError>
     ensures { OnOk result ((q : List ℕ)
@@ -78,5 +79,5 @@ fn digests_among(alloc: Global, rows: &[NumberedRow]) -> Result<Digests, AllocEr
 pub(crate) fn digests(alloc: Global, rows: &ByKind) -> Result<Digests, AllocError>
     ensures { IfOk result (λ digests. HasDigests rows.now digests) }
 {
-    digests_among(alloc, rows.of(RowKind::User))
+    digests_among(alloc, rows.of(Kind::User))
 }

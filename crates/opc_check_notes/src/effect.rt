@@ -87,7 +87,7 @@ fn put(map: &mut RowsByKey, row: &Row, kept: Kept) -> Result<(), AllocError>
     ensures { OnOk result ((q : Key) → get ghosts.cmp map.new q
         ≡ if same_key (key_of row.now) q then Some kept else get ghosts.cmp map.old q) }
 {
-    // Named for the prover, which else does not find the types of a row.
+    // Named for the prover, which otherwise cannot infer the types of a row.
     let _no_console: Option<ConsoleName> = None;
     map.insert(key_of(row), kept)?;
     Ok(())

@@ -7,10 +7,11 @@ ghost use Rattle.opc_check_notes.specs.declared.numbered.NumberedRow.{NumberedRo
 ghost use Rattle.opc_check_notes.specs.Entries.{HasPlaced, all_placed, placed_by};
 ghost use Rattle.opc_check_notes.specs.Named.{HasNames};
 
-use crate::kinds::{ByKind, RowKind};
-use crate::lists::{Lists, push_if};
+use crate::kinds::ByKind;
 use crate::names::SortedNames;
 use crate::numbered::NumberedRow;
+use crate::sorted_pairs::{SortedPairs, push_if};
+use opc_import::kind::Kind;
 use opc_names::class::Class;
 use opc_names::name::{ConsoleName, Pattern};
 use opc_policy_members::row::Row;
@@ -19,17 +20,21 @@ use std::alloc::{AllocError, Global};
 
 /// Where an entry is: in which profile, and for which console if it is for one.
 #[derive(Clone, Copy, PartialEq, Eq, PartialOrd, Ord)]
-pub struct Place {
+pub struct EntryPlace {
     pub class: Class,
     pub pattern: Pattern,
     pub when: Option<ConsoleName>,
 }
 
 /// The groups that have an entry at each place.
-pub(crate) type GroupEntries = Lists<Place, EntryId>;
+pub(crate) type GroupEntries = SortedPairs<EntryPlace, EntryId>;
 
 /// A place and a group, if somebody is in the group.
-fn of_members(members: &SortedNames, place: Place, id: EntryId) -> Option<(Place, EntryId)>
+fn of_members(
+    members: &SortedNames,
+    place: EntryPlace,
+    id: EntryId,
+) -> Option<(EntryPlace, EntryId)>
     ensures { result ≡ if list_any (λ (n : List ℕ). bytes_eq n id) members.now then Some (place, id) else None }
 {
     if members.has(id.text()) {
@@ -40,7 +45,7 @@ fn of_members(members: &SortedNames, place: Place, id: EntryId) -> Option<(Place
 }
 
 /// The place of an entry and whom it is for, if this is a group that somebody is in.
-fn placed(members: &SortedNames, row: &Row) -> Option<(Place, EntryId)>
+fn placed(members: &SortedNames, row: &Row) -> Option<(EntryPlace, EntryId)>
     ensures { result ≡ placed_by members.now row.now }
 {
     match *row {
@@ -52,7 +57,7 @@ fn placed(members: &SortedNames, row: &Row) -> Option<(Place, EntryId)>
             ..
         } => of_members(
             members,
-            Place {
+            EntryPlace {
                 class,
                 pattern,
                 when,
@@ -68,7 +73,7 @@ fn placed_among(
     alloc: Global,
     rows: &[NumberedRow],
     members: &SortedNames,
-) -> Result<Vec<(Place, EntryId)>, AllocError>
+) -> Result<Vec<(EntryPlace, EntryId)>, AllocError>
     ensures { IfOk result (λ list. list.items
         ≡ filter_map (λ (at : Numbered). placed_by members.now at.row) rows.now) }
 {
@@ -83,11 +88,11 @@ fn all_placed(
     alloc: Global,
     rows: &ByKind,
     members: &SortedNames,
-) -> Result<Vec<(Place, EntryId)>, AllocError>
+) -> Result<Vec<(EntryPlace, EntryId)>, AllocError>
     requires { HasNames rows.now given.ConnectedGroup members.now }
     ensures { IfOk result (λ list. list.items ≡ all_placed rows.now) }
 {
-    placed_among(alloc, rows.of(RowKind::Permit), members)
+    placed_among(alloc, rows.of(Kind::Permit), members)
 }
 
 /// The groups that have an entry at each place, where these are the names of those that somebody is in.
@@ -99,5 +104,5 @@ pub(crate) fn group_entries(
     requires { HasNames rows.now given.ConnectedGroup members.now }
     ensures { IfOk result (HasPlaced rows.now) }
 {
-    Lists::sorted(all_placed(alloc, rows, members)?)
+    SortedPairs::sorted(all_placed(alloc, rows, members)?)
 }

@@ -59,7 +59,7 @@ pub(crate) fn revoked_entry(known: &Known, row: &Row) -> Option<Finding>
     }
 }
 
-/// Whether a user has an own entry beside one of a group.
+/// Whether a user has an entry of the user's own beside one of a group.
 fn has_own(known: &Known, row: &Row, user: &EntryId) -> bool
     ensures { result ≡ has_own known.now row.now user.now }
 {
@@ -83,14 +83,14 @@ fn have_own(known: &Known, row: &Row, users: &[(Bytes<8>, EntryId)]) -> bool
     users.iter().all(|pair| has_own(known, row, &pair.1))
 }
 
-/// The same of all users of a group.
+/// Whether all users of a group have.
 fn users_have_own(known: &Known, row: &Row, group: &EntryId) -> bool
     ensures { result ≡ list_all (has_own known.now row.now) (partners known.now side.Group group.now) }
 {
     have_own(known, row, known.users_of(group))
 }
 
-/// Whether an entry is for a group each user of which has an own entry beside it.
+/// Whether an entry is for a group all users of which have their own entry beside it.
 fn is_idle(known: &Known, row: &Row, id: &EntryId) -> bool
     ensures { result ≡ (is_named known.now given.Group id.now
         && list_all (has_own known.now row.now) (partners known.now side.Group id.now)) }
@@ -120,7 +120,7 @@ fn idle(
     )
 }
 
-/// Each user of a group has an own entry beside that of the group.
+/// All users of a group have their own entry beside that of the group.
 pub(crate) fn serves_nobody(known: &Known, row: &Row) -> Option<Finding>
     ensures { result ≡ serves_nobody known.now row.now }
 {

@@ -1,4 +1,4 @@
-//! Own entries that give less than one of a group.
+//! Users' own entries that give less than one of a group.
 ghost use Rattle.std.specs.Prelude.{◌≡◌, ℕ, List, Some, map, option_map};
 ghost use Rattle.opc_check_notes.specs.declared.connects.Side.TheVariants as side;
 ghost use Rattle.opc_check_notes.specs.Connects.{partners};
@@ -8,7 +8,7 @@ ghost use Rattle.opc_check_notes.specs.Notes.{above, group_above, own_below_grou
 ghost use Rattle.opc_check_notes.specs.Ranked.{earlier, first_ranked, place_of, ranked};
 
 use crate::effect::RowKey;
-use crate::entries::Place;
+use crate::entries::EntryPlace;
 use crate::known::Known;
 use crate::names::copied;
 use crate::note::Finding;
@@ -126,7 +126,7 @@ fn first_ranked(
     known: &Known,
     row: &Row,
     user: &EntryId,
-    groups: &[(Place, EntryId)],
+    groups: &[(EntryPlace, EntryId)],
 ) -> Option<Ranked>
     ensures { result ≡ first_ranked known.now row.now user.now (map (λ p. p.1) groups.now) }
 {
@@ -153,16 +153,16 @@ fn above_by_connects(known: &Known, row: &Row, user: &EntryId) -> Option<Finding
     first_above(known, row, known.groups_of(user))
 }
 
-/// The same by a walk through the groups that have an entry at the place.
-fn above_by_entries(known: &Known, row: &Row, user: &EntryId, place: &Place) -> Option<Finding>
+/// The same, by a walk through the groups that have an entry at the place.
+fn above_by_entries(known: &Known, row: &Row, user: &EntryId, place: &EntryPlace) -> Option<Finding>
     requires { place_of row.now ≡ Some place.now }
     ensures { result ≡ first_of (group_above known.now row.now) (partners known.now side.User user.now) }
 {
     finding_of(first_ranked(known, row, user, known.groups_at(place)))
 }
 
-/// The same by the shorter walk of the two.
-fn above_by_group(known: &Known, row: &Row, user: &EntryId, place: &Place) -> Option<Finding>
+/// The same, by the shorter walk of the two.
+fn above_by_group(known: &Known, row: &Row, user: &EntryId, place: &EntryPlace) -> Option<Finding>
     requires { place_of row.now ≡ Some place.now }
     ensures { result ≡ first_of (group_above known.now row.now) (partners known.now side.User user.now) }
 {
@@ -190,7 +190,7 @@ pub(crate) fn own_below_group(known: &Known, row: &Row) -> Option<Finding>
             known,
             row,
             &id,
-            &Place {
+            &EntryPlace {
                 class,
                 pattern,
                 when,

@@ -1,46 +1,31 @@
 //! The rows in effect by their kinds.
 ghost use Rattle.std.specs.Prelude.{◌≡◌, IfOk};
 ghost use Rattle.opc_check_notes.specs.Kinds.{is_of, of_kind};
-ghost use Rattle.opc_check_notes.specs.declared.kinds.RowKind.TheVariants as kind;
+ghost use Rattle.opc_import.specs.declared.kind.Kind.TheVariants as kind;
 
 use crate::numbered::NumberedRow;
+use opc_import::kind::Kind;
 use opc_policy_members::row::Row;
 use opc_rows::Rows;
 use std::alloc::{AllocError, Global};
 use std::marker::Model;
 
-/// The kind of a row.
-#[derive(Clone, Copy)]
-pub enum RowKind {
-    Class,
-    Group,
-    User,
-    Connect,
-    Console,
-    Profile,
-    Permit,
-}
-
-fn is_of(kind: RowKind, row: &Row) -> bool
+fn is_of(kind: Kind, row: &Row) -> bool
     ensures { result ≡ is_of kind row.now }
 {
     match kind {
-        RowKind::Class => matches!(row, Row::Class { .. }),
-        RowKind::Group => matches!(row, Row::Group { .. }),
-        RowKind::User => matches!(row, Row::User(_)),
-        RowKind::Connect => matches!(row, Row::Connect { .. }),
-        RowKind::Console => matches!(row, Row::Console { .. }),
-        RowKind::Profile => matches!(row, Row::Profile { .. }),
-        RowKind::Permit => matches!(row, Row::Permit { .. }),
+        Kind::Class => matches!(row, Row::Class { .. }),
+        Kind::Group => matches!(row, Row::Group { .. }),
+        Kind::User => matches!(row, Row::User(_)),
+        Kind::Connect => matches!(row, Row::Connect { .. }),
+        Kind::Console => matches!(row, Row::Console { .. }),
+        Kind::Profile => matches!(row, Row::Profile { .. }),
+        Kind::Permit => matches!(row, Row::Permit { .. }),
     }
 }
 
 /// Those of these rows that are of a kind.
-fn of_kind(
-    alloc: Global,
-    rows: &[NumberedRow],
-    kind: RowKind,
-) -> Result<Rows<NumberedRow>, AllocError>
+fn of_kind(alloc: Global, rows: &[NumberedRow], kind: Kind) -> Result<Rows<NumberedRow>, AllocError>
     ensures { IfOk result (λ list. list ≡ of_kind rows.now kind) }
 {
     let mut list = Rows::new(alloc);
@@ -68,7 +53,7 @@ pub struct ByKind {
 impl Model for ByKind {
     ghost use Rattle.std.specs.Prelude.{List, ◌≡◌};
     ghost use Rattle.opc_check_notes.specs.declared.numbered.NumberedRow.{NumberedRow};
-    ghost use Rattle.opc_check_notes.specs.declared.kinds.RowKind.TheVariants as kind;
+    ghost use Rattle.opc_import.specs.declared.kind.Kind.TheVariants as kind;
     ghost use Rattle.opc_check_notes.specs.Kinds.{of_kind};
 
     ghost Value = { List NumberedRow };
@@ -89,13 +74,13 @@ impl ByKind {
     pub(crate) fn from(alloc: Global, all: Vec<NumberedRow>) -> Result<Self, AllocError>
         ensures { IfOk result (λ rows. rows ≡ all.items) }
     {
-        let classes = of_kind(alloc, &all, RowKind::Class)?;
-        let groups = of_kind(alloc, &all, RowKind::Group)?;
-        let users = of_kind(alloc, &all, RowKind::User)?;
-        let connects = of_kind(alloc, &all, RowKind::Connect)?;
-        let consoles = of_kind(alloc, &all, RowKind::Console)?;
-        let profiles = of_kind(alloc, &all, RowKind::Profile)?;
-        let permits = of_kind(alloc, &all, RowKind::Permit)?;
+        let classes = of_kind(alloc, &all, Kind::Class)?;
+        let groups = of_kind(alloc, &all, Kind::Group)?;
+        let users = of_kind(alloc, &all, Kind::User)?;
+        let connects = of_kind(alloc, &all, Kind::Connect)?;
+        let consoles = of_kind(alloc, &all, Kind::Console)?;
+        let profiles = of_kind(alloc, &all, Kind::Profile)?;
+        let permits = of_kind(alloc, &all, Kind::Permit)?;
         Ok(ByKind {
             all,
             classes,
@@ -109,17 +94,17 @@ impl ByKind {
     }
 
     /// Those of a kind, in order.
-    pub fn of(&self, kind: RowKind) -> &[NumberedRow]
+    pub fn of(&self, kind: Kind) -> &[NumberedRow]
         ensures { result.now ≡ of_kind self.now kind }
     {
         match kind {
-            RowKind::Class => self.classes.as_slice(),
-            RowKind::Group => self.groups.as_slice(),
-            RowKind::User => self.users.as_slice(),
-            RowKind::Connect => self.connects.as_slice(),
-            RowKind::Console => self.consoles.as_slice(),
-            RowKind::Profile => self.profiles.as_slice(),
-            RowKind::Permit => self.permits.as_slice(),
+            Kind::Class => self.classes.as_slice(),
+            Kind::Group => self.groups.as_slice(),
+            Kind::User => self.users.as_slice(),
+            Kind::Connect => self.connects.as_slice(),
+            Kind::Console => self.consoles.as_slice(),
+            Kind::Profile => self.profiles.as_slice(),
+            Kind::Permit => self.permits.as_slice(),
         }
     }
 }

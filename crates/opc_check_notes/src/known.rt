@@ -13,10 +13,10 @@ ghost use Rattle.opc_check_notes.specs.Entries.{groups_at};
 ghost use Rattle.opc_check_notes.specs.Levels.{level_at};
 ghost use Rattle.opc_check_notes.specs.Named.{HasNames, count, is_named};
 
-use crate::connects::{Connects, Side, connects};
+use crate::connects::{Partners, Side, connects};
 use crate::digests::{Digests, digests};
 use crate::effect::{Kept, RowKey, RowsByKey, rows_in_effect};
-use crate::entries::{GroupEntries, Place, group_entries};
+use crate::entries::{EntryPlace, GroupEntries, group_entries};
 use crate::kinds::ByKind;
 use crate::names::{Given, SortedNames, copied, count, names};
 use opc_names::bytes::Bytes;
@@ -101,8 +101,8 @@ pub struct Known {
     by_key: RowsByKey,
     names: AllNames,
     digests: Digests,
-    groups_of: Connects,
-    users_of: Connects,
+    groups_of: Partners,
+    users_of: Partners,
     group_entries: GroupEntries,
     specials: usize,
 }
@@ -173,7 +173,7 @@ impl Known {
         &self.rows
     }
 
-    /// Whether there is a user of a console's name.
+    /// Whether there is a user with a console's name.
     pub fn has_own_user(&self, console: &ConsoleName) -> bool
         ensures { result ≡ is_named self.now given.User console.now }
     {
@@ -187,7 +187,7 @@ impl Known {
         self.names.revoked.has(id.text())
     }
 
-    /// Whether the user of a console's name has SPECIAL.
+    /// Whether the user with a console's name has SPECIAL.
     pub fn has_special_user(&self, console: &ConsoleName) -> bool
         ensures { result ≡ is_named self.now given.Special console.now }
     {
@@ -215,7 +215,7 @@ impl Known {
         self.names.holders.has(user.text())
     }
 
-    /// Whether a console acts for a user where nobody is on.
+    /// Whether an unattended console acts for a user.
     pub fn has_console(&self, user: &UserId) -> bool
         ensures { result ≡ is_named self.now given.AutoConsole user.now }
     {
@@ -268,7 +268,7 @@ impl Known {
     }
 
     /// The groups with somebody in them that have an entry at a place, each after this place.
-    pub fn groups_at(&self, place: &Place) -> &[(Place, EntryId)]
+    pub fn groups_at(&self, place: &EntryPlace) -> &[(EntryPlace, EntryId)]
         ensures groups { map (λ p. p.1) result.now ≡ groups_at self.now place.now }
         ensures order { AreInOrder self.now }
     {

@@ -1,4 +1,4 @@
-//! Notes on a policy file: which rows are in effect, and what they leave open, or have no effect.
+//! Notes on a policy file: which rows are in effect, what they leave open, and which have no effect.
 #![tactic(auto)]
 
 pub mod connects;
@@ -9,12 +9,12 @@ mod entry_notes;
 mod groups;
 pub mod kinds;
 pub mod known;
-mod lists;
 pub mod names;
 pub mod note;
 pub mod notes;
 pub mod numbered;
 mod phrases;
 mod profiles;
+mod sorted_pairs;
 pub mod text;
 mod users;

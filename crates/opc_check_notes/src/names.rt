@@ -7,9 +7,10 @@ ghost use Rattle.opc_policy_members.specs.Members.{name_cmp};
 ghost use Rattle.opc_check_notes.specs.declared.numbered.NumberedRow.{NumberedRow as Numbered};
 ghost use Rattle.opc_check_notes.specs.Named.{HasNames, count, giving, named};
 
-use crate::kinds::{ByKind, RowKind};
-use crate::lists::push_if;
+use crate::kinds::ByKind;
 use crate::numbered::NumberedRow;
+use crate::sorted_pairs::push_if;
+use opc_import::kind::Kind;
 use opc_names::auth::Auth;
 use opc_names::bytes::Bytes;
 use opc_policy_members::row::Row;
@@ -81,15 +82,15 @@ fn named(given: Given, row: &Row) -> Option<Bytes<8>>
 }
 
 /// The kind of the rows that give a name.
-fn giving(given: Given) -> RowKind
+fn giving(given: Given) -> Kind
     ensures { result ≡ giving given }
 {
     match given {
-        Given::User | Given::Revoked | Given::Special | Given::Auditor => RowKind::User,
-        Given::ConnectedUser | Given::ConnectedGroup => RowKind::Connect,
-        Given::Group => RowKind::Group,
-        Given::Holder => RowKind::Permit,
-        Given::AutoConsole | Given::MasterConsole => RowKind::Console,
+        Given::User | Given::Revoked | Given::Special | Given::Auditor => Kind::User,
+        Given::ConnectedUser | Given::ConnectedGroup => Kind::Connect,
+        Given::Group => Kind::Group,
+        Given::Holder => Kind::Permit,
+        Given::AutoConsole | Given::MasterConsole => Kind::Console,
     }
 }
 

@@ -8,7 +8,7 @@ use opc_names::level::Level;
 use opc_names::name::{ConsoleName, GroupName, Pattern, UserId};
 use opc_terms::entry_id::EntryId;
 
-/// What a note is about.
+/// The code of a note, by its subject.
 #[derive(Clone, Copy)]
 pub enum NoteCode {
     Warning,
@@ -32,7 +32,7 @@ pub enum NoteCode {
 }
 
 impl NoteCode {
-    /// Its text. The codes stay as they are: a note that goes leaves its number free.
+    /// Its text. The codes stay as they are: the number of a note that was removed is not used again.
     pub fn text(self) -> &'static str
         ensures { result.now ≡ code_text self }
     {

@@ -16,7 +16,6 @@ ghost use Rattle.opc_check_notes.specs.Notes.{
 
 use crate::entry_notes::{empty_group, revoked_entry, serves_nobody};
 use crate::groups::own_below_group;
-use crate::kinds::RowKind;
 use crate::known::Known;
 use crate::names::{Given, count};
 use crate::note::{Finding, Note, NoteCode};
@@ -26,6 +25,7 @@ use crate::profiles::{
     special_console, warning,
 };
 use crate::users::{no_access, no_digest, one_special, same_digest};
+use opc_import::kind::Kind;
 use opc_names::class::Class;
 use opc_policy_members::row::Row;
 use opc_rows::Rows;
@@ -52,7 +52,7 @@ fn finding(known: &Known, code: NoteCode, row: &Row) -> Option<Finding>
         NoteCode::NoResource => no_resource(row),
         NoteCode::SpecialConsole => special_console(known, row),
         NoteCode::NoAccess => no_access(known, row),
-        // These are found of no row.
+        // These findings are about no row.
         NoteCode::Auditor | NoteCode::Master => None,
     }
 }
@@ -73,7 +73,7 @@ fn note_at(known: &Known, code: NoteCode, at: &NumberedRow) -> Option<Note>
 fn add_found(notes: &mut Rows<Note>, note: Option<Note>) -> Result<(), AllocError>
     ensures { OnOk result (notes.new ≡ notes.old ++ cons_option note []) }
 {
-    // Named for the prover, which else does not find the types of a note.
+    // Named for the prover, which otherwise cannot infer the types of a note.
     let _nothing: Option<Finding> = None;
     match note {
         Some(note) => {
@@ -101,7 +101,7 @@ fn add_at_rows(
     Ok(())
 }
 
-/// Adds what is found of no row.
+/// Adds the findings that are about no row.
 fn add(notes: &mut Rows<Note>, finding: Finding) -> Result<(), AllocError>
     ensures { OnOk result (notes.new ≡ notes.old ++ note_of_none finding ∷ []) }
 {
@@ -143,29 +143,29 @@ fn add_of_none(notes: &mut Rows<Note>, known: &Known, code: NoteCode) -> Result<
             add_unnamed_class(notes, known, Class::Console)?;
             add_unnamed_class(notes, known, Class::Opercmds)
         }
-        // The other codes are of rows.
+        // The other codes are about rows.
         _ => Ok(()),
     }
 }
 
 /// The kind of the rows that a note of a code is about, if it is about one.
-fn about(code: NoteCode) -> RowKind
+fn about(code: NoteCode) -> Kind
     ensures { result ≡ about code }
 {
     match code {
-        NoteCode::Warning | NoteCode::OpenToAll | NoteCode::NoResource => RowKind::Profile,
+        NoteCode::Warning | NoteCode::OpenToAll | NoteCode::NoResource => Kind::Profile,
         NoteCode::NoDigest
         | NoteCode::SameDigest
         | NoteCode::Special
         | NoteCode::Auditor
-        | NoteCode::NoAccess => RowKind::User,
-        NoteCode::EmptyGroup => RowKind::Group,
+        | NoteCode::NoAccess => Kind::User,
+        NoteCode::EmptyGroup => Kind::Group,
         NoteCode::RevokedEntry | NoteCode::OwnBelowGroup | NoteCode::ServesNobody => {
-            RowKind::Permit
+            Kind::Permit
         }
         NoteCode::Master | NoteCode::OpenConsole | NoteCode::NoOwnUser | NoteCode::SpecialConsole =>
-            RowKind::Console,
-        NoteCode::InactiveClass | NoteCode::NoProfile => RowKind::Class,
+            Kind::Console,
+        NoteCode::InactiveClass | NoteCode::NoProfile => Kind::Class,
     }
 }
 

@@ -11,19 +11,19 @@ use opc_names::name::{ConsoleName, GroupName, Pattern, UserId};
 use opc_terms::entry_id::EntryId;
 use std::alloc::{AllocError, Global};
 
-/// What nobody on enters at a console.
+/// What an OPTIONAL console allows without a logon.
 fn opened(auth: &Auth) -> &str
     ensures { result.now ≡ opened auth.now }
 {
     match auth {
         Auth::Master => "everything",
         Auth::All => "everything but MASTER",
-        // The word of another authority says which commands it enters.
+        // The word of another authority says which commands it allows.
         _ => auth.text(),
     }
 }
 
-/// What it means that an active class has no profile.
+/// What it means if an active class has no profile.
 fn without_profile(class: Class) -> &'static str
     ensures { result.now ≡ without_profile class }
 {
@@ -53,7 +53,7 @@ fn open_to_all_text(
 fn no_digest_text(alloc: Global, user: &UserId) -> Result<String, AllocError>
     ensures { IfOk result (λ text. string_bytes text ≡ finding_text (found.NoDigest user.now)) }
 {
-    format!(in alloc; "{user} has no digest and no AUTO console: nobody gets on")
+    format!(in alloc; "{user} has no digest and no AUTO console, so cannot log on")
 }
 
 fn same_digest_text(alloc: Global, user: &UserId, other: &UserId) -> Result<String, AllocError>
@@ -91,9 +91,9 @@ fn open_console_words(
     opened: &str,
 ) -> Result<String, AllocError>
     ensures { IfOk result (λ text. string_bytes text
-        ≡ codes "console " ++ (console.now ++ (codes " is OPTIONAL: nobody on enters " ++ opened.now))) }
+        ≡ codes "console " ++ (console.now ++ (codes " is OPTIONAL: without a logon it allows " ++ opened.now))) }
 {
-    format!(in alloc; "console {console} is OPTIONAL: nobody on enters {opened}")
+    format!(in alloc; "console {console} is OPTIONAL: without a logon it allows {opened}")
 }
 
 fn open_console_text(

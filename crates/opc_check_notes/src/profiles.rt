@@ -18,11 +18,11 @@ ghost use Rattle.opc_check_notes.specs.Notes.{
   warning,
 };
 
-use crate::kinds::RowKind;
 use crate::known::Known;
 use crate::note::Finding;
 use crate::numbered::NumberedRow;
 use opc_check_reach::met;
+use opc_import::kind::Kind;
 use opc_names::class::Class;
 use opc_names::level::Level;
 use opc_names::name::Pattern;
@@ -78,7 +78,7 @@ pub(crate) fn open_to_all(row: &Row) -> Option<Finding>
 fn is_met(pattern: &Pattern) -> bool
     ensures { result ≡ is_met pattern.now }
 {
-    // Named for the prover, which learns of it that the pattern is one.
+    // Named for the prover, to show that the text is a pattern.
     let _text = pattern.text();
     met::is_met(pattern)
 }
@@ -116,7 +116,7 @@ pub(crate) fn open_console(row: &Row) -> Option<Finding>
     }
 }
 
-/// There is no user whom an AUTO console could act for.
+/// There is no user for whom an AUTO console could act.
 pub(crate) fn no_own_user(known: &Known, row: &Row) -> Option<Finding>
     ensures { result ≡ no_own_user known.now row.now }
 {
@@ -182,7 +182,7 @@ fn any_class_row(rows: &[NumberedRow], class: Class) -> bool
 pub(crate) fn has_class_row(known: &Known, class: Class) -> bool
     ensures { result ≡ list_any (λ (at : Numbered). is_class_row class at.row) known.now }
 {
-    any_class_row(known.rows().of(RowKind::Class), class)
+    any_class_row(known.rows().of(Kind::Class), class)
 }
 
 fn any_profile(rows: &[NumberedRow], class: Class) -> bool
@@ -194,7 +194,7 @@ fn any_profile(rows: &[NumberedRow], class: Class) -> bool
 fn has_profile(known: &Known, class: Class) -> bool
     ensures { result ≡ list_any (λ (at : Numbered). is_profile_row class at.row) known.now }
 {
-    any_profile(known.rows().of(RowKind::Profile), class)
+    any_profile(known.rows().of(Kind::Profile), class)
 }
 
 /// A class is inactive.
@@ -206,7 +206,7 @@ pub(crate) fn inactive_class(row: &Row) -> Option<Finding>
             class,
             active: false,
         } => Some(Finding::InactiveClass(class)),
-        // A class that is active is no such class; other rows are about none.
+        // The class is active, or the row is about no class.
         _ => None,
     }
 }

@@ -9,7 +9,7 @@ use opc_names::name::UserId;
 use opc_policy_members::row::Row;
 use opc_policy_members::user::User;
 
-/// Nobody gets on as a user: there is no digest, and no console that acts for the user.
+/// Nobody can log on as a user: the user has no digest, and no console acts for the user.
 pub(crate) fn no_digest(known: &Known, row: &Row) -> Option<Finding>
     ensures { result ≡ no_digest known.now row.now }
 {
@@ -45,7 +45,7 @@ pub(crate) fn same_digest(known: &Known, row: &Row) -> Option<Finding>
                 ..
             },
         ) => other_with(id, known.first_with(&digest)),
-        // A user without a digest shares none; other rows have none.
+        // The user has no digest, or the row is no user's.
         _ => None,
     }
 }

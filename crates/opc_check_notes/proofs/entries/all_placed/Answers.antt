@@ -2,7 +2,7 @@ use Rattle.std.proofs.Common.{ap, ◌∙◌}
 use Rattle.std.specs.Prelude.{filter_map}
 use Rattle.std.proofs.lemmas.Result.{IfOk-weaker}
 use Rattle.opc_check_notes.specs.declared.numbered.NumberedRow.{NumberedRow}
-use Rattle.opc_check_notes.specs.declared.kinds.RowKind.TheVariants as kind
+use Rattle.opc_import.specs.declared.kind.Kind.TheVariants as kind
 use Rattle.opc_check_notes.specs.Entries.{placed_by}
 use Rattle.opc_check_notes.specs.Kinds.{of_kind}
 use Rattle.opc_check_notes.proofs.OfKind.{placed_of}

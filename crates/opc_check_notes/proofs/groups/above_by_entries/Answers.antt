@@ -2,7 +2,7 @@ use Rattle.std.proofs.Common.{ap, ◌∙◌}
 use Rattle.std.specs.Option.{option_map}
 use Rattle.opc_check_notes.specs.declared.groups.Ranked.{Ranked}
 use Rattle.opc_check_notes.specs.Ranked.{first_ranked}
-use Rattle.opc_check_notes.proofs.Earliest.{first_by_place}
+use Rattle.opc_check_notes.proofs.ByPlace.{first_by_place}
 use Rattle.opc_check_notes.proofs.groups.above_by_entries.Goals as goal
 
 pub returns : goal.returns

@@ -4,5 +4,5 @@ use Rattle.opc_check_notes.proofs.phrases.open_console_text.Goals as goal
 
 pub returns : goal.returns
 returns c = subst (λ (words : List ℕ). IfOk c.open_console_words.result (λ text. string_bytes text
-    ≡ codes "console " ++ (c.args.console.now ++ (codes " is OPTIONAL: nobody on enters " ++ words))))
+    ≡ codes "console " ++ (c.args.console.now ++ (codes " is OPTIONAL: without a logon it allows " ++ words))))
     c.opened.ensures c.open_console_words.ensures

@@ -1,5 +1,5 @@
 use Rattle.opc_check_notes.proofs.Listing.{found_at, in_turn}
-use Rattle.opc_check_notes.proofs.lists.among.Goals as goal
+use Rattle.opc_check_notes.proofs.sorted_pairs.among.Goals as goal
 
 pub slice_bounds-result-start : goal.slice_bounds-result-start
 slice_bounds-result-start g c =

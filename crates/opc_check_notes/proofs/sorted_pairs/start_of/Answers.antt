@@ -1,7 +1,7 @@
 use Rattle.std.proofs.Common.{is_lt, rules}
 use Rattle.std.proofs.lemmas.List.Sorted.{IsPartitionPoint-from_clause}
 use Rattle.opc_check_notes.proofs.Listing.{parted_less}
-use Rattle.opc_check_notes.proofs.lists.start_of.Goals as goal
+use Rattle.opc_check_notes.proofs.sorted_pairs.start_of.Goals as goal
 
 pub returns-clause-parts : goal.returns-clause-parts
 returns-clause-parts g c =

@@ -3,35 +3,35 @@ ghost use Rattle.std.specs.Prelude.{◌≡◌, ◌≤◌, ◌++◌, [], true, fa
 ghost use Rattle.std.specs.List.{cons_option};
 ghost use Rattle.std.specs.List.Sorted.{IsPartitionPoint, IsSortedByKey};
 ghost use Rattle.std.specs.Ordering.{is_le, is_lt};
-ghost use Rattle.opc_check_notes.specs.Lists.{at_key};
+ghost use Rattle.opc_check_notes.specs.SortedPairs.{at_key};
 
 use std::alloc::AllocError;
 use std::marker::Model;
 
 /// Pairs of a key and a value in the order of their keys, and those of one key in the order in which they came.
 #[derive(Drop)]
-pub(crate) struct Lists<K: Ord, V> {
+pub(crate) struct SortedPairs<K: Ord, V> {
     pairs: Vec<(K, V)>,
 }
 
-impl<K: Ord, V> Model for Lists<K, V> {
+impl<K: Ord, V> Model for SortedPairs<K, V> {
     ghost use Rattle.std.specs.Prelude.{List};
     ghost use Rattle.std.specs.List.Sorted.{IsSortedByKey};
 
     ghost Value = { List (K × V) };
 
-    ghost view = { λ lists. lists.pairs.items };
+    ghost view = { λ kept. kept.pairs.items };
 
-    ghost invariant = { λ lists. IsSortedByKey (λ (pair : K × V). pair.0) K.cmp lists.pairs.items };
+    ghost invariant = { λ kept. IsSortedByKey (λ (pair : K × V). pair.0) K.cmp kept.pairs.items };
 }
 
-impl<K: Ord + Copy + Drop, V: Drop> Lists<K, V> {
+impl<K: Ord + Copy + Drop, V: Drop> SortedPairs<K, V> {
     /// These pairs.
     pub(crate) fn sorted(mut pairs: Vec<(K, V)>) -> Result<Self, AllocError>
-        ensures { IfOk result (λ lists. (key : K) → at_key K.cmp key lists ≡ at_key K.cmp key pairs.items) }
+        ensures { IfOk result (λ kept. (key : K) → at_key K.cmp key kept ≡ at_key K.cmp key pairs.items) }
     {
         pairs.sort_by_key(|pair| pair.0)?;
-        Ok(Lists { pairs })
+        Ok(SortedPairs { pairs })
     }
 
     /// The pairs of a key.

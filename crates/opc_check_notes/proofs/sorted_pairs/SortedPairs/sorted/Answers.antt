@@ -1,7 +1,7 @@
 use Rattle.std.proofs.Common.{◌≡◌, rules}
 use Rattle.std.proofs.lemmas.List.Sorted.{answers_always}
 use Rattle.opc_check_notes.proofs.Listing.{stays_at}
-use Rattle.opc_check_notes.proofs.lists.Lists.sorted.Goals as goal
+use Rattle.opc_check_notes.proofs.sorted_pairs.SortedPairs.sorted.Goals as goal
 
 pub invariant_of-result : goal.invariant_of-result
 invariant_of-result g c =

@@ -2,7 +2,7 @@ use Rattle.std.proofs.Common.{rules}
 use Rattle.std.specs.Ordering.{is_le}
 use Rattle.std.proofs.lemmas.List.Sorted.{IsPartitionPoint-from_clause}
 use Rattle.opc_check_notes.proofs.Listing.{parted_most}
-use Rattle.opc_check_notes.proofs.lists.end_of.Goals as goal
+use Rattle.opc_check_notes.proofs.sorted_pairs.end_of.Goals as goal
 
 pub returns-clause-parts : goal.returns-clause-parts
 returns-clause-parts g c =

@@ -1,25 +1,30 @@
 -- What is explained at a console, by what is found there.
 use Rattle.std.proofs.Common.{◌≡◌, ℕ, List, Option, Some, None, Result, Ok, Err, sym, ap, ◌∙◌}
 use Rattle.std.specs.Option.{option_and_then}
-use Rattle.opc_names.specs.declared.class.Class.TheVariants.{Opercmds}
+use Rattle.opc_names.specs.declared.class.Class.TheVariants.{Console, Opercmds}
+use Rattle.opc_names.specs.declared.level.Level.TheVariants.{Read}
 use Rattle.opc_terms.specs.declared.fault.Fault.{Fault}
-use Rattle.opc_terms.specs.declared.fault.Fault.TheVariants.{Missing}
+use Rattle.opc_terms.specs.declared.fault.Fault.TheVariants.{Missing, NoConsole}
 use Rattle.opc_terms.specs.declared.need.Need.{Need}
 use Rattle.opc_policy_members.specs.declared.user.User.{User}
 use Rattle.opc_policy_members.specs.Members.{user_of}
 use Rattle.opc_policy.specs.declared.explained.Explained.{Explained}
 use Rattle.opc_policy.specs.declared.ruling.Ruling.{Ruling}
-use Rattle.opc_policy.specs.Explained.{explained_to}
+use Rattle.opc_policy.specs.Explained.{explained_to, explanation}
 use Rattle.opc_board.specs.declared.rows.ConsoleRow.{ConsoleRow}
+use Rattle.opc_board.specs.Invariants.{console_at}
 use Rattle.opc_state.specs.State.{State}
-use Rattle.opc_machine.specs.Rulings.{own_user, ruling}
+use Rattle.opc_machine.specs.Rulings.{logon_ruling, own_user, ruling}
 use Rattle.opc_answers.specs.declared.explaining.CommandExplained.{CommandExplained}
 use Rattle.opc_answers.specs.Explaining.{
   at_console,
   at_none,
   by_actor,
   by_profiles,
+  logon_explained,
+  logon_of,
   no_logon_of,
+  with_logon,
   with_nobody,
   with_ruling,
   without_console,
@@ -31,7 +36,7 @@ use Rattle.opc_answers.specs.Made.{member_of}
 use Rattle.opc_answers.specs.Who.{no_logon_at, nobody_at, on_at}
 use Rattle.opc_answers.proofs.Found.{has_the_id}
 
--- why a stored user does not get on
+-- why a stored user cannot log on
 stored_so : (s : State) (place : AskedAt) (id : List ℕ) (u : User) (why : Option NoLogon) → Some u ≡ user_of s.policy.users id
     → why ≡ no_logon_at s.policy s.board place (member_of s.policy.connects u) → no_logon_of s place id ≡ why
 stored_so s place id u why found is =
@@ -80,3 +85,24 @@ module _ (s : State) (need : Need) (id : List ℕ) (console : Option (List ℕ))
   not_stored_anywhere none =
       ap (λ o. without_console (no_logon_of s Everywhere id)
       (explained_to o s.policy Opercmds need.resource id console need.level)) (sym none)
+
+-- for a LOGON
+module _ (s : State) (name id : List ℕ) where
+  pub logs_on : (u : User) (c : ConsoleRow) (ruled : Ruling) (r : Result Explained Fault) (out : Result CommandExplained Fault)
+      → Some u ≡ user_of s.policy.users id → Some c ≡ console_at s.board name → ruled ≡ logon_ruling s c u
+      → explanation s.policy Console name id (Some name) Read ≡ r → with_logon u.digest ruled r ≡ out
+      → logon_explained s name (Some id) ≡ out
+  logs_on u c ruled r out found there is by so =
+      ap (λ o. logon_of s name id o (console_at s.board name)) (sym found)
+      ∙ ap (logon_of s name id (Some u)) (sym there)
+      ∙ ap (λ x. with_logon u.digest x (explanation s.policy Console name id (Some name) Read)) (sym is)
+      ∙ ap (with_logon u.digest ruled) by
+      ∙ so
+
+  pub logs_on_nowhere : (u : User) → Some u ≡ user_of s.policy.users id → None ≡ console_at s.board name
+      → logon_explained s name (Some id) ≡ Err NoConsole
+  logs_on_nowhere u found none =
+      ap (λ o. logon_of s name id o (console_at s.board name)) (sym found) ∙ ap (logon_of s name id (Some u)) (sym none)
+
+  pub nobody_logs_on : None ≡ user_of s.policy.users id → logon_explained s name (Some id) ≡ Err (Missing id)
+  nobody_logs_on none = ap (λ o. logon_of s name id o (console_at s.board name)) (sym none)

@@ -6,5 +6,6 @@ pub mod Making
 pub mod Placed
 pub mod Ruled
 pub mod Said
+pub mod Shown
 pub mod Floats
 pub mod Words

@@ -18,7 +18,7 @@ use Rattle.opc_policy_members.specs.Taken.{after_row, has_user, has_group, has_h
 use Rattle.opc_board.specs.declared.board.BoardRows.{BoardRows}
 use Rattle.opc_state.specs.State.{empty}
 use Rattle.opc_machine.specs.Bootstrap.{bootstrapped, console_after, consoles_after, with_rows_of}
-use Rattle.opc_answers.specs.declared.members.Member.{Member}
+use Rattle.opc_answers.specs.declared.members.UserWithGroups.{UserWithGroups}
 use Rattle.opc_answers.specs.Made.{connect_after, connects_after, member_of, members_of, state_of, user_after, users_after}
 
 consoles_steps : (one more : List Row) (b : BoardRows) → consoles_after (one ++ more) b ≡ consoles_after more (consoles_after one b)
@@ -136,7 +136,7 @@ connects_more all i row start connects new low is was next =
     ∙ connects_steps (take i all) (row ∷ []) start)
 
 -- the users with their groups
-pub members_so : (all : List Row) (p : Policy) (users : List User) (connects : List Connect) (members : List Member)
+pub members_so : (all : List Row) (p : Policy) (users : List User) (connects : List Connect) (members : List UserWithGroups)
     → policy_after all empty.policy ≡ Ok p → users ≡ users_after all [] → connects ≡ connects_after all []
     → members ≡ map (member_of connects) users → members ≡ members_of p
 members_so all p users connects members taken are have is =

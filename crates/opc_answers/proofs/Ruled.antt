@@ -23,7 +23,7 @@ use Rattle.opc_machine.specs.Rulings.{access_ruling, acting, denied_or, is_requi
 use Rattle.opc_answers.specs.Deciding.{decider}
 use Rattle.opc_answers.specs.Who.{by_decider, nobody_at}
 
-verdict_is : (b : Bool) (rule : Rule) (other : Ruling)
+pub verdict_is : (b : Bool) (rule : Rule) (other : Ruling)
     → by_verdict (if b then Allowed else Denied) rule other ≡ (if b then rulings.Allowed rule else rulings.Denied rule)
 verdict_is true rule other = refl
 verdict_is false rule other = refl
@@ -59,7 +59,7 @@ pub own_so : (o : Option User) (name : List ℕ) → is_some (if is_some o then 
 own_so None name = refl
 own_so (Some u) name = refl
 
--- the ruling with nobody on: the first of these that applies
+-- the ruling at an unattended console: the first of these that applies
 module _ (s : State) (c : ConsoleRow) (need : Need) where
   pub where_required : is_required c.mode ≡ true → ruling s (nobody_at c) need ≡ rulings.Denied rules.LogonRequired
   where_required is = ap (λ b. denied_or (if b && true then Some rules.LogonRequired else

@@ -1,4 +1,4 @@
--- What is said of a user is ruled.
+-- The ruling in the line of a user.
 use Rattle.std.proofs.Common.{◌≡◌, ℕ, Bool, true, false, List, Option, Some, None, refl, sym, ap, ◌∙◌, if◌then◌else◌}
 use Rattle.std.specs.Prelude.{◌&&◌, unwrap_or}
 use Rattle.std.specs.Option.{is_some}
@@ -32,11 +32,11 @@ use Rattle.opc_answers.specs.Deciding.{decider}
 use Rattle.opc_answers.specs.Who.{by_decider, by_profile, is_named, is_raised, line, line_of, on_at}
 use Rattle.opc_answers.proofs.Ruled.{access_so}
 
--- what is said, or else the console's authority
+-- the ruling of the line, or else that of the console's authority
 abbrev ruling_or : Option Ruling → Auth → Need → Ruling
 ruling_or ruling auth need = unwrap_or ruling (console_ruling auth need)
 
--- of a user who is on, by whether the user is revoked
+-- for a user who is logged on, by whether the user is revoked
 by_revoked : (b : Bool) (d : Option Profile) (user : User) (console : Option (List ℕ)) (groups : List (List ℕ)) (auth : Auth) (need : Need)
     → denied_or (if b then Some rule.Revoked else None) (by_decider d user console groups auth need)
     ≡ ruling_or (if b then line user (Some (Denied rule.Revoked)) None else by_profile d console need.level groups user).ruling auth need
@@ -44,12 +44,12 @@ by_revoked true d user console groups auth need = refl
 by_revoked false None user console groups auth need = refl
 by_revoked false (Some p) user console groups auth need = refl
 
--- somebody is on, so that no logon is required
+-- somebody is logged on, so that no logon is required
 on_required : (b : Bool) (other : Option Rule) → (if b && false then Some rule.LogonRequired else other) ≡ other
 on_required true other = refl
 on_required false other = refl
 
--- the ruling with a stored user on
+-- the ruling with a stored user logged on
 pub with_user : (s : State) (need : Need) (c : ConsoleRow) (user : User) (acting : Option User) → acting ≡ Some user
     → denied_or (if is_required c.mode && false then Some rule.LogonRequired else (if is_revoked acting then Some rule.Revoked else None))
     (access_ruling s (on_at user.id c) acting need)
@@ -86,7 +86,7 @@ ruling_by s need c user decided groups l decides stored are is =
 pub at_a_console : SaysTheRulingAtAConsole
 at_a_console s need c user is = ap (λ r. Some r) (sym (ruling_so s need c user is))
 
--- where a level is held, something is said
+-- where a level is held, there is a ruling
 raised_so : (b : Bool) (d : Option Profile) (user : User) (console : Option (List ℕ)) (groups : List (List ℕ)) (level : Level) (auth : Auth)
     (need : Need) → is_raised (if b then line user (Some (Denied rule.Revoked)) None else by_profile d console level groups user) ≡ true
     → (if b then line user (Some (Denied rule.Revoked)) None else by_profile d console level groups user).ruling

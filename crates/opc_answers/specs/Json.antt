@@ -30,12 +30,14 @@ use Rattle.opc_policy_sources.specs.declared.sources.HeldLevel.{HeldLevel}
 use Rattle.opc_policy_sources.specs.SourceTexts.{source_text}
 use Rattle.opc_answers.specs.declared.consoles.ConsoleLine.{ConsoleLine}
 use Rattle.opc_answers.specs.declared.lines.UserLine.{UserLine}
-use Rattle.opc_answers.specs.declared.logons.NoLogon.{NoLogon}
+use Rattle.opc_answers.specs.declared.logons.Instead.{Instead}
+use Rattle.opc_answers.specs.declared.logons.Instead.TheVariants as instead
+use Rattle.opc_answers.specs.declared.shows.Shows.{Shows}
 use Rattle.opc_answers.specs.declared.wanted.Wanted.{Wanted}
-use Rattle.opc_answers.specs.declared.wanted.Wanted.TheVariants.{Command, Access}
+use Rattle.opc_answers.specs.declared.wanted.Wanted.TheVariants.{Command, Logon, Access}
 use Rattle.opc_answers.specs.declared.who.Who.{Who}
-use Rattle.opc_answers.specs.Who.{class_of, consoles_of, level_of, raised_of, resource_of, users_of}
-use Rattle.opc_answers.specs.Texts.{kind_words, may, may_with_nobody_on, no_logon_text, ruling_word, verdict_word}
+use Rattle.opc_answers.specs.Who.{class_of, consoles_of, level_of, line_wanted, raised_of, resource_of, users_of}
+use Rattle.opc_answers.specs.Texts.{console_word, kind_words, may, may_with_nobody_on, no_logon_text, verdict_word}
 
 -- 10 is the line feed
 abbrev pub json_line : Data → List ℕ
@@ -45,30 +47,44 @@ abbrev pub text_or_null : Option (List ℕ) → Data
 text_or_null None = null
 text_or_null (Some text) = string text
 
--- the group of the command that is asked about
+-- the group of the command of the question
 abbrev pub group_of : Wanted → Option (List ℕ)
 group_of (Command entered) = Some (group_text entered.need.group)
+group_of (Logon name) = None
 group_of (Access class resource level) = None
 
--- what the unit of the command was taken for
+-- the kind for which the unit of the command was taken
 abbrev pub taken_words : Wanted → Option (List ℕ)
 taken_words (Command entered) = option_map kind_words entered.unit
+taken_words (Logon name) = None
 taken_words (Access class resource level) = None
 
 -- what is asked about, and the profile that decides
-abbrev pub question_value : Who → Data
-question_value who =
-    object (member (codes "active") (boolean who.active)
-    (member (codes "as") (text_or_null (taken_words who.wanted))
-    (member (codes "class") (string (class_text (class_of who.wanted)))
-    (member (codes "group") (text_or_null (group_of who.wanted))
-    (member (codes "kind") (string (codes "question"))
-    (member (codes "level") (string (level_text (level_of who.wanted)))
-    (member (codes "pattern") (text_or_null (option_map (λ (p : Profile). p.pattern) who.decided))
-    (member (codes "resource") (string (resource_of who.wanted))
-    (member (codes "uacc") (text_or_null (option_map (λ (p : Profile). level_text p.uacc) who.decided))
-    (member (codes "warning") (boolean (option_map_or (λ (p : Profile). p.warning) who.decided false))
+abbrev pub asked_value : (kind : List ℕ) → (active : Bool) → Wanted → Option Profile → Data
+asked_value kind active w decided =
+    object (member (codes "active") (boolean active)
+    (member (codes "as") (text_or_null (taken_words w))
+    (member (codes "class") (string (class_text (class_of w)))
+    (member (codes "group") (text_or_null (group_of w))
+    (member (codes "kind") (string kind)
+    (member (codes "level") (string (level_text (level_of w)))
+    (member (codes "pattern") (text_or_null (option_map (λ (p : Profile). p.pattern) decided))
+    (member (codes "resource") (string (resource_of w))
+    (member (codes "uacc") (text_or_null (option_map (λ (p : Profile). level_text p.uacc) decided))
+    (member (codes "warning") (boolean (option_map_or (λ (p : Profile). p.warning) decided false))
     no_members))))))))))
+
+abbrev pub question_value : Who → Data
+question_value who = asked_value (codes "question") who.active who.wanted who.decided
+
+-- the line that a command asks for, as a question of its own
+abbrev pub shows_json : (active : Bool) → Option Shows → List ℕ
+shows_json active None = []
+shows_json active (Some shows) =
+    json_line (asked_value (codes "shows") active (line_wanted shows.need) shows.decided)
+
+abbrev pub beginning_json : Who → List ℕ
+beginning_json who = json_line (question_value who) ++ shows_json who.active who.shows
 
 -- the level held, its source, and the console if the entry is for it alone
 abbrev pub held_words : Option HeldLevel → Option (List ℕ)
@@ -80,10 +96,15 @@ source_words held = option_map (λ (h : HeldLevel). source_text h.source) held
 abbrev pub place_words : Option HeldLevel → Option (List ℕ)
 place_words held = option_and_then (λ (h : HeldLevel). h.when) held
 
--- the rule that decided, or why the user does not get on
-abbrev pub rule_words : Option Ruling → Option NoLogon → Option (List ℕ)
-rule_words ruling None = option_map (λ (r : Ruling). rule_text (rule_of r)) ruling
-rule_words ruling (Some why) = Some (no_logon_text why)
+-- the rule that decided, or what is said in its place
+abbrev pub ruling_words : Option Ruling → Option (List ℕ)
+ruling_words ruling = option_map (λ (r : Ruling). rule_text (rule_of r)) ruling
+
+abbrev pub rule_words : Option Ruling → Option Instead → Option (List ℕ)
+rule_words ruling None = ruling_words ruling
+rule_words ruling (Some instead.Hidden) = ruling_words ruling
+rule_words ruling (Some (instead.NoLogon why)) = Some (no_logon_text why)
+rule_words ruling (Some instead.NoDigest) = Some (codes "NODIGEST")
 
 abbrev pub user_value : UserLine → Data
 user_value line =
@@ -91,9 +112,9 @@ user_value line =
     (member (codes "held") (text_or_null (held_words line.held))
     (member (codes "id") (string line.id)
     (member (codes "kind") (string (codes "user"))
-    (member (codes "rule") (text_or_null (rule_words line.ruling line.no_logon))
+    (member (codes "rule") (text_or_null (rule_words line.ruling line.instead))
     (member (codes "source") (text_or_null (source_words line.held))
-    (member (codes "verdict") (string (verdict_word line.ruling line.no_logon)) no_members)))))))
+    (member (codes "verdict") (string (verdict_word line.ruling line.instead)) no_members)))))))
 
 abbrev pub console_value : ConsoleLine → Data
 console_value line =
@@ -101,9 +122,9 @@ console_value line =
     (member (codes "id") (string line.name)
     (member (codes "kind") (string (codes "console"))
     (member (codes "rule") (string (rule_text (rule_of line.ruling)))
-    (member (codes "verdict") (string (ruling_word line.ruling)) no_members)))))
+    (member (codes "verdict") (string (console_word line)) no_members)))))
 
--- if only those are asked for who may, the other lines are left out
+-- if only those who may are requested, the other lines are left out
 abbrev pub user_json : Bool → UserLine → List ℕ
 user_json allowed line = if allowed && not (may line) then [] else json_line (user_value line)
 
@@ -115,5 +136,5 @@ consoles_json allowed None = []
 consoles_json allowed (Some lines) = flat_map (console_json allowed) lines
 
 abbrev pub who_json : Bool → Who → List ℕ
-who_json allowed who = json_line (question_value who) ++ flat_map (user_json allowed) (users_of who)
+who_json allowed who = beginning_json who ++ flat_map (user_json allowed) (users_of who)
     ++ flat_map (user_json allowed) (raised_of who) ++ consoles_json allowed (consoles_of who)

@@ -1,5 +1,5 @@
--- Who gets on at a console: by a logon, or as the user for whom the console acts where nobody is on.
-use Rattle.std.specs.Prelude.{Bool, true, List, [], ◌∷◌, Option, Some, None, ◌&&◌, if◌then◌else◌}
+-- Who can act at a console: by a logon, or as the user for whom the console acts while unattended.
+use Rattle.std.specs.Prelude.{Bool, List, Option, Some, None, ◌&&◌, if◌then◌else◌}
 use Rattle.std.specs.Option.{is_none}
 use Rattle.std.specs.List.{list_any}
 use Rattle.std.specs.Str.{bytes_eq}
@@ -15,7 +15,7 @@ use Rattle.opc_board.specs.declared.rows.ConsoleRow.{ConsoleRow}
 use Rattle.opc_machine.specs.Rulings.{is_auto}
 use Rattle.opc_answers.specs.declared.logons.NoLogon.{NoLogon}
 use Rattle.opc_answers.specs.declared.logons.NoLogon.TheVariants.{Denied, NoConsole, NoDigest}
-use Rattle.opc_answers.specs.declared.members.Member.{Member}
+use Rattle.opc_answers.specs.declared.members.UserWithGroups.{UserWithGroups}
 use Rattle.opc_answers.specs.Deciding.{decider}
 
 -- a console, and the profile that decides who may log on there
@@ -31,29 +31,25 @@ abbrev pub denied_by : Ruling → Option NoLogon
 denied_by (ruling.Allowed rule) = None
 denied_by (ruling.Denied rule) = Some (Denied rule)
 
-abbrev pub by_profile : Option Profile → ConsoleRow → Member → Option NoLogon
+abbrev pub by_profile : Option Profile → ConsoleRow → UserWithGroups → Option NoLogon
 by_profile None c m = None
 by_profile (Some p) c m = denied_by (profile_ruling p m.user (Some c.name) m.groups Read)
 
-abbrev pub refusal : Door → Member → Option NoLogon
+abbrev pub refusal : Door → UserWithGroups → Option NoLogon
 refusal d m = if is_none m.user.digest then Some NoDigest else
     (if m.user.revoked then Some (Denied rule.Revoked) else by_profile d.profile d.console m)
 
 -- whether the console acts for this user where nobody is on
-abbrev pub acts_for : ConsoleRow → Member → Bool
+abbrev pub acts_for : ConsoleRow → UserWithGroups → Bool
 acts_for c m = is_auto c.mode && bytes_eq c.name m.user.id
 
--- why a user does not get on there
-abbrev pub no_logon : Door → Member → Option NoLogon
+-- why a user cannot log on there
+abbrev pub no_logon : Door → UserWithGroups → Option NoLogon
 no_logon d m = if acts_for d.console m then None else refusal d m
 
-abbrev pub gets_on : Member → Door → Bool
+abbrev pub gets_on : UserWithGroups → Door → Bool
 gets_on m d = is_none (no_logon d m)
 
--- and at none of some consoles; if there are none, it is a part of a policy, which does not tell
-abbrev pub gets_on_somewhere : Member → List Door → Bool
-gets_on_somewhere m [] = true
-gets_on_somewhere m (d ∷ doors) = list_any (gets_on m) (d ∷ doors)
-
-abbrev pub nowhere : Member → List Door → Option NoLogon
-nowhere m doors = if gets_on_somewhere m doors then None else Some NoConsole
+-- and that a user can log on at none of some consoles
+abbrev pub nowhere : UserWithGroups → List Door → Option NoLogon
+nowhere m doors = if list_any (gets_on m) doors then None else Some NoConsole

@@ -11,7 +11,7 @@ use Rattle.opc_policy_members.specs.declared.user.User.{User}
 use Rattle.opc_policy_members.specs.Members.{groups_of, name_cmp, with_connect, with_user}
 use Rattle.opc_board.specs.declared.board.BoardRows.{BoardRows}
 use Rattle.opc_state.specs.State.{State, empty}
-use Rattle.opc_answers.specs.declared.members.Member.{Member}
+use Rattle.opc_answers.specs.declared.members.UserWithGroups.{UserWithGroups}
 
 abbrev pub user_after : Row → List User → List User
 user_after (rows.User user) users = with_user user users
@@ -45,10 +45,10 @@ abbrev pub IsSplit : (Connect → Bool) → List Connect → ℕ → Type 0
 IsSplit p connects place = IsPartitionPoint (λ c. p c ≡ true) (λ c. p c ≡ false) connects place
 
 -- a user with the groups of the user
-abbrev pub member_of : List Connect → User → Member
+abbrev pub member_of : List Connect → User → UserWithGroups
 member_of connects user = record { user = user; groups = groups_of connects user.id }
 
-abbrev pub members_of : Policy → List Member
+abbrev pub members_of : Policy → List UserWithGroups
 members_of p = map (member_of p.connects) p.users
 
 -- a state with this policy and this board, and nothing in the account

@@ -1,13 +1,16 @@
-//! What is said of consoles where nobody is on.
+//! The lines of unattended consoles.
 ghost use Rattle.std.specs.Prelude.{◌≡◌, IfOk, Some};
-ghost use Rattle.std.specs.Option.{is_some, option_and_then, option_copied};
+ghost use Rattle.std.specs.Option.{is_some, option_and_then, option_copied, option_map};
 ghost use Rattle.opc_names.specs.declared.class.Class.TheVariants.{Opercmds};
 ghost use Rattle.opc_policy_members.specs.Members.{user_of};
 ghost use Rattle.opc_machine.specs.Rulings.{access_ruling, is_required, is_revoked, own_user, ruling};
 ghost use Rattle.opc_answers.specs.Made.{state_of};
 ghost use Rattle.opc_answers.specs.Deciding.{decider};
-ghost use Rattle.opc_answers.specs.Who.{by_decider, console_line, console_lines, nobody_at};
+ghost use Rattle.opc_answers.specs.Who.{by_decider, console_by, console_line, console_lines, nobody_at, said_of, shows_by};
 
+use crate::room::Room;
+use crate::shows::{Said, Shows, said_of};
+use crate::wanted::Entered;
 use opc_board::board::Board;
 use opc_board::rows::ConsoleRow;
 use opc_names::name::{ConsoleName, GroupName, UserId};
@@ -21,12 +24,14 @@ use opc_terms::need::Need;
 use opc_terms::rule::Rule;
 use std::alloc::{AllocError, Global};
 
-/// What is said of a command at a console where nobody is on, and whether the console acts for the user of its name.
+/// What is said of a command at a console where nobody is on, whether the console acts for the user of its name, and
+/// whether the ruling is that the line is hidden which the command asks for.
 #[derive(Clone, Copy)]
 pub struct ConsoleLine {
     pub name: ConsoleName,
     pub own: bool,
     pub ruling: Ruling,
+    pub hidden: bool,
 }
 
 // The id of a console's own user, which is the console's name.
@@ -36,7 +41,7 @@ fn own_id(name: &ConsoleName) -> UserId
     name.as_kind()
 }
 
-/// The console's own user, if it acts for one where nobody is on.
+/// The console's own user, if it acts for one while unattended.
 #[tactic(auto, using(crate::proofs::Ruled::own_found, crate::proofs::Ruled::own_so))]
 fn own_user<'a>(policy: &'a Policy, board: &Board, console: &ConsoleRow) -> Option<&'a User>
     ensures user { option_copied result ≡ option_and_then (user_of policy.entry.now.users)
@@ -48,6 +53,13 @@ fn own_user<'a>(policy: &'a Policy, board: &Board, console: &ConsoleRow) -> Opti
         Mode::Auto => policy.users.get(&own_id(&console.name)),
         Mode::Optional | Mode::Required => None,
     }
+}
+
+/// Whether the console acts for such a user.
+fn is_own(policy: &Policy, board: &Board, console: &ConsoleRow) -> bool
+    ensures { result ≡ is_some (own_user (state_of policy.now board.now) console.now) }
+{
+    own_user(policy, board, console).is_some()
 }
 
 /// By the profile that decides or, if none does, by the authority of the console.
@@ -109,7 +121,7 @@ fn is_revoked(user: Option<&User>) -> bool
     }
 }
 
-/// The name of the console's own user, if it acts for one where nobody is on.
+/// The name of the console's own user, if it acts for one while unattended.
 pub(crate) fn own_name(policy: &Policy, board: &Board, console: &ConsoleRow) -> Option<UserId>
     ensures { result ≡ own_user (state_of policy.now board.now) console.now }
 {
@@ -119,7 +131,7 @@ pub(crate) fn own_name(policy: &Policy, board: &Board, console: &ConsoleRow) -> 
     }
 }
 
-/// The ruling on a command at a console where nobody is on.
+/// The ruling on a command at an unattended console.
 #[tactic(auto, using(crate::proofs::Ruled::where_required, crate::proofs::Ruled::where_revoked, crate::proofs::Ruled::where_allowed_to_act,))]
 pub(crate) fn ruling(
     alloc: Global,
@@ -142,43 +154,111 @@ pub(crate) fn ruling(
     access_ruling(alloc, policy, board, decided, need, console, user)
 }
 
+fn console_ruled(console: &ConsoleRow, own: bool, ruling: &Ruling, hidden: bool) -> ConsoleLine
+    ensures { result ≡ record { name = console.now.name; own = own; ruling = ruling.now; hidden = hidden } }
+{
+    ConsoleLine {
+        name: console.name,
+        own,
+        ruling: *ruling,
+        hidden,
+    }
+}
+
+fn said_of_rulings(command: &Ruling, line: &Ruling) -> Said
+    ensures { result ≡ said_of (Some command.now) (Some line.now) }
+{
+    said_of(&Some(*command), &Some(*line))
+}
+
+/// What is said of two rulings, the command's and the line's.
+fn console_said(console: &ConsoleRow, own: bool, command: &Ruling, line: &Ruling) -> ConsoleLine
+    ensures { result ≡ console_by console.now.name own command.now (Some line.now) }
+{
+    match said_of_rulings(command, line) {
+        Said::OfCommand => console_ruled(console, own, command, false),
+        Said::OfLine => console_ruled(console, own, line, false),
+        Said::Hidden => console_ruled(console, own, line, true),
+    }
+}
+
+fn console_by(console: &ConsoleRow, own: bool, command: Ruling, line: Option<Ruling>) -> ConsoleLine
+    ensures { result ≡ console_by console.now.name own command line }
+{
+    match line {
+        Some(line) => console_said(console, own, &command, &line),
+        None => console_ruled(console, own, &command, false),
+    }
+}
+
+/// The ruling on the line that a command asks for, if it asks for one.
+#[tactic(auto, using(crate::proofs::Shown::decides, crate::proofs::Shown::rules_none, crate::proofs::Shown::rules_one))]
+fn line_ruling(
+    alloc: Global,
+    policy: &Policy,
+    board: &Board,
+    shows: &Option<Shows>,
+    line: &Option<Need>,
+    console: &ConsoleRow,
+) -> Result<Option<Ruling>, AllocError>
+    requires { shows.now ≡ shows_by policy.now line.now }
+    ensures { IfOk result (λ answer. answer
+        ≡ option_map (ruling (state_of policy.now board.now) (nobody_at console.now)) line.now) }
+{
+    let Some(shows) = shows else {
+        return Ok(None);
+    };
+    let ruled = ruling(
+        alloc,
+        policy,
+        board,
+        shows.decided.as_ref(),
+        &shows.need,
+        console,
+    )?;
+    Ok(Some(ruled))
+}
+
 /// What is said of a command at a console where nobody is on.
 fn console_line(
     alloc: Global,
-    policy: &Policy,
-    board: &Board,
+    room: &Room,
     decided: Option<&Profile>,
-    need: &Need,
+    shows: &Option<Shows>,
+    entered: &Entered,
     console: &ConsoleRow,
 ) -> Result<ConsoleLine, AllocError>
-    requires { option_copied decided ≡ decider policy.now Opercmds need.now.resource }
-    ensures { IfOk result (λ line. line ≡ console_line (state_of policy.now board.now) need.now console.now) }
+    requires command { option_copied decided ≡ decider room.now.policy Opercmds entered.now.need.resource }
+    requires line { shows.now ≡ shows_by room.now.policy entered.now.line }
+    ensures { IfOk result (λ line. line ≡ console_line (state_of room.now.policy room.now.board) entered.now.need
+        entered.now.line console.now) }
 {
-    let own = own_user(policy, board, console).is_some();
-    Ok(ConsoleLine {
-        name: console.name,
-        own,
-        ruling: ruling(alloc, policy, board, decided, need, console)?,
-    })
+    let (policy, board) = (&room.policy, &room.board);
+    let own = is_own(policy, board, console);
+    let command = ruling(alloc, policy, board, decided, &entered.need, console)?;
+    let line = line_ruling(alloc, policy, board, shows, &entered.line, console)?;
+    Ok(console_by(console, own, command, line))
 }
 
-/// What is said of a command at each of these consoles, where nobody is on.
+/// The line of a command at each of these consoles, unattended.
 pub(crate) fn console_lines(
     alloc: Global,
-    policy: &Policy,
-    board: &Board,
+    room: &Room,
     decided: Option<&Profile>,
-    need: &Need,
+    shows: &Option<Shows>,
+    entered: &Entered,
     consoles: &[ConsoleRow],
 ) -> Result<Rows<ConsoleLine>, AllocError>
-    requires { option_copied decided ≡ decider policy.now Opercmds need.now.resource }
-    ensures { IfOk result (λ lines. lines ≡ console_lines (state_of policy.now board.now) need.now consoles.now) }
+    requires command { option_copied decided ≡ decider room.now.policy Opercmds entered.now.need.resource }
+    requires line { shows.now ≡ shows_by room.now.policy entered.now.line }
+    ensures { IfOk result (λ lines. lines ≡ console_lines (state_of room.now.policy room.now.board) entered.now.need
+        entered.now.line consoles.now) }
 {
-    // Named for the prover, which else does not find the types of a line.
+    // Named for the prover, which otherwise cannot infer the types of a line.
     let (_no_rule, _no_ruling): (Option<Rule>, Option<Ruling>) = (None, None);
     let mut lines = Rows::new(alloc);
     for console in consoles {
-        lines.push(console_line(alloc, policy, board, decided, need, console)?)?;
+        lines.push(console_line(alloc, room, decided, shows, entered, console)?)?;
     }
     Ok(lines)
 }

@@ -1,19 +1,19 @@
-//! Where users get on: at each console, or at the one that is named.
+//! Where users can log on: at each console, or at the one that is named.
 ghost use Rattle.std.specs.Prelude.{◌≡◌, IfOk, map};
 ghost use Rattle.opc_answers.specs.Logons.{door_of};
 ghost use Rattle.opc_answers.specs.Doors.{AreDoorsAt, no_logon_by};
 ghost use Rattle.opc_answers.specs.Who.{unless_on};
 
 use crate::lines::{UserLine, is_denied};
-use crate::logons::{Door, NoLogon, nowhere};
-use crate::members::Member;
+use crate::logons::{Door, NoLogon, nowhere, off_for};
+use crate::members::UserWithGroups;
 use crate::who::AskedAt;
 use opc_board::board::Board;
 use opc_board::rows::ConsoleRow;
 use opc_policy_members::policy::Policy;
 use std::alloc::{AllocError, Global};
 
-/// Where users get on: at the consoles of the board, at one of them, or wherever that does not count.
+/// Where users can log on: at the consoles of the board, or at one of them; or that does not count.
 #[derive(Drop)]
 pub(crate) enum Doors<'a> {
     All(Vec<Door<'a>>),
@@ -22,8 +22,8 @@ pub(crate) enum Doors<'a> {
 }
 
 impl Doors<'_> {
-    /// Why a user does not get on there.
-    pub(crate) fn no_logon(&self, member: &Member) -> Option<NoLogon>
+    /// Why a user cannot log on there.
+    pub(crate) fn no_logon(&self, member: &UserWithGroups) -> Option<NoLogon>
         ensures { result ≡ no_logon_by self.now member.now }
     {
         match self {
@@ -33,8 +33,8 @@ impl Doors<'_> {
         }
     }
 
-    /// The line of a user, with why the user does not get on, unless it denies anyway.
-    pub(crate) fn unless_on(&self, member: &Member, line: UserLine) -> UserLine
+    /// The line of a user, with why the user cannot log on, unless it denies anyway.
+    pub(crate) fn unless_on(&self, member: &UserWithGroups, line: UserLine) -> UserLine
         ensures { result ≡ unless_on (no_logon_by self.now member.now) line }
     {
         if is_denied(&line.ruling) {
@@ -44,7 +44,7 @@ impl Doors<'_> {
             id: line.id,
             ruling: line.ruling,
             held: line.held,
-            no_logon: self.no_logon(member),
+            instead: off_for(self.no_logon(member)),
         }
     }
 }
@@ -63,7 +63,7 @@ fn all_doors<'a>(
     Ok(doors)
 }
 
-/// Those that count where it is asked about.
+/// Those that count for where the question is asked.
 pub(crate) fn doors_at<'a>(
     alloc: Global,
     policy: &'a Policy,

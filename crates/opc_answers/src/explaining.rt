@@ -1,14 +1,20 @@
 //! Why a command may or may not be entered.
 ghost use Rattle.std.specs.Prelude.{◌≡◌, ◌≢◌, IfErr, IfOk, Ok, Err, Some};
 ghost use Rattle.std.specs.Option.{option_copied};
+ghost use Rattle.opc_names.specs.declared.class.Class.TheVariants.{Console};
+ghost use Rattle.opc_names.specs.declared.level.Level.TheVariants.{Read};
 ghost use Rattle.opc_terms.specs.declared.fault.Fault.TheVariants as why;
+ghost use Rattle.opc_policy.specs.Explained.{explanation};
 ghost use Rattle.opc_answers.specs.Explaining.{
   at_console,
   at_none,
   by_profiles,
   console_named,
   explained_in,
+  logon_explained,
   unless_denied,
+  unless_digest,
+  with_logon,
   with_ruling,
   without_console,
 };
@@ -18,13 +24,14 @@ ghost use Rattle.opc_answers.specs.Who.{no_logon_at};
 use crate::consoles::{own_name, ruling};
 use crate::deciding::decider;
 use crate::doors::doors_at;
-use crate::lines::ruling_with;
-use crate::logons::NoLogon;
-use crate::members::Member;
+use crate::lines::{logon_ruling, ruling_with};
+use crate::logons::{Instead, NoLogon, off_for, resource_of};
+use crate::members::UserWithGroups;
 use crate::room::Room;
 use crate::who::{AskedAt, console_of};
 use opc_board::rows::ConsoleRow;
 use opc_names::class::Class;
+use opc_names::level::Level;
 use opc_names::name::{ConsoleName, UserId};
 use opc_policy::explained::{Explained, Patterns, explain};
 use opc_policy::ruling::Ruling;
@@ -37,17 +44,17 @@ use opc_terms::need::Need;
 use opc_terms::rule::Rule;
 use std::alloc::{AllocError, Global};
 
-/// Why a command may or may not be entered: the patterns of the profiles that cover, if it is entered for a user; the
-/// verdict with its rule; and why the user does not get on, if that says more.
+/// Why a command may or may not be entered: the patterns of the profiles that cover, if a user enters it; the verdict
+/// with its rule; and what replaces them, if that says more.
 #[derive(Drop)]
 pub(crate) struct CommandExplained {
     pub(crate) covering: Option<Patterns>,
     pub(crate) verdict: Verdict,
     pub(crate) rule: Rule,
-    pub(crate) no_logon: Option<NoLogon>,
+    pub(crate) instead: Option<Instead>,
 }
 
-/// What the profiles say of a user who enters what a command needs.
+/// The verdict of the profiles on a user who enters a command with this need.
 fn by_profiles(
     alloc: Global,
     policy: &Policy,
@@ -71,13 +78,13 @@ fn by_profiles(
     )
 }
 
-/// That a user does not get on says more than a verdict, unless it denies anyway.
-fn unless_denied(verdict: Verdict, no_logon: Option<NoLogon>) -> Option<NoLogon>
+/// Replaces a verdict by the reason why a user cannot log on, unless it denies anyway.
+fn unless_denied(verdict: Verdict, no_logon: Option<NoLogon>) -> Option<Instead>
     ensures { result ≡ unless_denied verdict no_logon }
 {
     match verdict {
         Verdict::Denied => None,
-        Verdict::Allowed | Verdict::Undecided => no_logon,
+        Verdict::Allowed | Verdict::Undecided => off_for(no_logon),
     }
 }
 
@@ -89,11 +96,11 @@ fn with_ruling(ruling: Ruling, no_logon: Option<NoLogon>, explained: Explained) 
         covering: Some(explained.covering),
         verdict: ruling.verdict(),
         rule: ruling.rule(),
-        no_logon: unless_denied(ruling.verdict(), no_logon),
+        instead: unless_denied(ruling.verdict(), no_logon),
     }
 }
 
-/// Why a user does not get on there.
+/// Why a user cannot log on there.
 fn no_logon_at(
     alloc: Global,
     room: &Room,
@@ -104,7 +111,7 @@ fn no_logon_at(
         ≡ no_logon_at room.now.policy room.now.board at.now (member_of room.now.policy.connects user.now)) }
 {
     let groups = room.policy.connects.groups_of(alloc, &user.id)?;
-    let member = Member {
+    let member = UserWithGroups {
         user: *user,
         groups: Rows::of(groups),
     };
@@ -112,7 +119,7 @@ fn no_logon_at(
     Ok(doors.no_logon(&member))
 }
 
-/// What the profiles alone say.
+/// The verdict of the profiles alone.
 fn without_console(no_logon: Option<NoLogon>, explained: Explained) -> CommandExplained
     ensures { without_console no_logon (Ok explained) ≡ Ok result }
 {
@@ -120,11 +127,11 @@ fn without_console(no_logon: Option<NoLogon>, explained: Explained) -> CommandEx
         covering: Some(explained.covering),
         verdict: explained.verdict,
         rule: explained.rule,
-        no_logon: unless_denied(explained.verdict, no_logon),
+        instead: unless_denied(explained.verdict, no_logon),
     }
 }
 
-/// At a console with nobody on, which acts for its own user or for nobody.
+/// At an unattended console, which acts for its own user or for nobody.
 #[tactic(auto, using(crate::proofs::Explained::with_own, crate::proofs::Explained::without_own))]
 fn with_nobody_on(
     alloc: Global,
@@ -149,12 +156,12 @@ fn with_nobody_on(
             covering: None,
             verdict: ruled.verdict(),
             rule: ruled.rule(),
-            no_logon: None,
+            instead: None,
         }),
     }
 }
 
-/// At a console with this user on.
+/// At a console where this user is logged on.
 #[tactic(auto, using(crate::proofs::Found::stored, crate::proofs::Explained::with_on, crate::proofs::Explained::not_stored))]
 fn with_user_on(
     alloc: Global,
@@ -179,7 +186,7 @@ fn with_user_on(
     Ok(with_ruling(ruled, no_logon, explained))
 }
 
-/// At a console with this user on or, without one, with nobody on.
+/// At a console where this user is logged on or, without one, at an unattended one.
 fn at_console(
     alloc: Global,
     room: &Room,
@@ -198,7 +205,7 @@ fn at_console(
     }
 }
 
-/// At no console of the board, where the profiles alone decide, and whether the user gets on anywhere.
+/// At no console of the board, where the profiles alone decide, and whether the user can log on anywhere.
 #[tactic(auto, using(crate::proofs::Explained::with_none, crate::proofs::Explained::not_stored_anywhere))]
 fn of_user(
     alloc: Global,
@@ -239,7 +246,7 @@ fn at_none(
     }
 }
 
-/// The console of the board, if one is named that is there.
+/// The console of the board with the name, if one is named and there.
 fn console_named<'a>(room: &'a Room, console: Option<&ConsoleName>) -> Option<&'a ConsoleRow>
     ensures { option_copied result ≡ console_named (state_of room.entry.now.policy room.entry.now.board)
         (option_copied console.entry) }
@@ -250,8 +257,8 @@ fn console_named<'a>(room: &'a Room, console: Option<&ConsoleName>) -> Option<&'
     }
 }
 
-/// Why a command that needs this may or may not be entered for a user, or, without one, with nobody on: at a console if
-/// one is named.
+/// Why a command that needs this may or may not be entered by a user, or, without one, at an unattended console: at a
+/// console if one is named.
 pub(crate) fn explained_in(
     alloc: Global,
     room: &Room,
@@ -268,5 +275,94 @@ pub(crate) fn explained_in(
     match console_named(room, console) {
         Some(found) => at_console(alloc, room, need, user, found),
         None => at_none(alloc, room, need, user, console),
+    }
+}
+
+/// The verdict of the profiles of class CONSOLE on a user at a console.
+fn by_console_profiles(
+    alloc: Global,
+    policy: &Policy,
+    name: &ConsoleName,
+    id: &UserId,
+) -> Result<Explained, Fault>
+    ensures ok { IfOk result (λ explained. explanation policy.now Console name.now id.now (Some name.now) Read
+        ≡ Ok explained) }
+    ensures fault { IfErr result (λ fault. fault ≢ why.NoMemory
+        → explanation policy.now Console name.now id.now (Some name.now) Read ≡ Err fault) }
+{
+    let resource = resource_of(name);
+    explain(
+        alloc,
+        policy,
+        Class::Console,
+        &resource,
+        id,
+        Some(name),
+        Level::Read,
+    )
+}
+
+/// Replaces a ruling by the reason that no digest is stored, if that is so.
+fn unless_digest(user: &User) -> Option<Instead>
+    ensures { result ≡ unless_digest user.now.digest }
+{
+    match user.digest {
+        Some(_) => None,
+        None => Some(Instead::NoDigest),
+    }
+}
+
+/// The patterns that cover, and the ruling on a LOGON.
+fn with_logon(ruling: Ruling, user: &User, explained: Explained) -> CommandExplained
+    ensures { with_logon user.now.digest ruling (Ok explained) ≡ Ok result }
+{
+    let (verdict, rule) = (ruling.verdict(), ruling.rule());
+    CommandExplained {
+        covering: Some(explained.covering),
+        verdict,
+        rule,
+        instead: unless_digest(user),
+    }
+}
+
+/// Of a LOGON of this user at a console, if both are there.
+#[tactic(auto, using(crate::proofs::Explained::logs_on, crate::proofs::Explained::logs_on_nowhere, crate::proofs::Explained::nobody_logs_on))]
+fn logon_of(
+    alloc: Global,
+    room: &Room,
+    name: &ConsoleName,
+    id: &UserId,
+) -> Result<CommandExplained, Fault>
+    ensures ok { IfOk result (λ explained. logon_explained (state_of room.now.policy room.now.board) name.now
+        (Some id.now) ≡ Ok explained) }
+    ensures fault { IfErr result (λ fault. fault ≢ why.NoMemory → logon_explained
+        (state_of room.now.policy room.now.board) name.now (Some id.now) ≡ Err fault) }
+{
+    let Some(user) = room.policy.users.get(id) else {
+        return Err(Fault::Missing(Subject::of(id)));
+    };
+    let Some(console) = console_of(&room.board, name) else {
+        return Err(Fault::NoConsole);
+    };
+    let ruled = logon_ruling(alloc, room, console, user)?;
+    let explained = by_console_profiles(alloc, &room.policy, name, id)?;
+    Ok(with_logon(ruled, user, explained))
+}
+
+/// Why a user may or may not log on at the console of this name.
+pub(crate) fn logon_explained(
+    alloc: Global,
+    room: &Room,
+    name: &ConsoleName,
+    user: Option<&UserId>,
+) -> Result<CommandExplained, Fault>
+    ensures ok { IfOk result (λ explained. logon_explained (state_of room.now.policy room.now.board) name.now
+        (option_copied user.entry) ≡ Ok explained) }
+    ensures fault { IfErr result (λ fault. fault ≢ why.NoMemory → logon_explained
+        (state_of room.now.policy room.now.board) name.now (option_copied user.entry) ≡ Err fault) }
+{
+    match user {
+        Some(id) => logon_of(alloc, room, name, id),
+        None => Err(Fault::NoConsole),
     }
 }

@@ -6,6 +6,8 @@ ghost use Rattle.serde_json.specs.View.{view};
 ghost use Rattle.serde_json.specs.Written.{has_float};
 ghost use Rattle.opc_names.specs.Spellings.{level_text};
 ghost use Rattle.opc_answers.specs.Json.{
+  asked_value,
+  beginning_json,
   console_json,
   console_value,
   consoles_json,
@@ -13,8 +15,9 @@ ghost use Rattle.opc_answers.specs.Json.{
   held_words,
   json_line,
   place_words,
-  question_value,
   rule_words,
+  ruling_words,
+  shows_json,
   source_words,
   taken_words,
   text_or_null,
@@ -22,11 +25,13 @@ ghost use Rattle.opc_answers.specs.Json.{
   user_value,
 };
 
+use crate::beginning::kind_words;
 use crate::consoles::ConsoleLine;
 use crate::lines::UserLine;
-use crate::logons::NoLogon;
-use crate::text::{is_allowed, kind_words, may, no_logon_text, ruling_word, verdict_word};
-use crate::wanted::{Entered, Wanted};
+use crate::logons::Instead;
+use crate::shows::Shows;
+use crate::text::{console_word, is_allowed, may, no_logon_text, verdict_word};
+use crate::wanted::{Entered, Wanted, line_wanted};
 use crate::who::Who;
 use opc_policy::ruling::Ruling;
 use opc_policy_members::profile::Profile;
@@ -59,11 +64,11 @@ pub(crate) fn group_value(alloc: Global, wanted: &Wanted) -> Result<Value, Alloc
 {
     match wanted {
         Wanted::Command(entered) => text_or_null(alloc, Some(entered.need.group.text())),
-        Wanted::Access { .. } => Ok(Value::Null),
+        Wanted::Logon(_) | Wanted::Access { .. } => Ok(Value::Null),
     }
 }
 
-/// What the unit of a command was taken for.
+/// The kind for which the unit of a command was taken.
 pub(crate) fn taken_value(alloc: Global, wanted: &Wanted) -> Result<Value, AllocError>
     ensures { IfOk result (λ value. view value ≡ text_or_null (taken_words wanted.now)) }
 {
@@ -109,22 +114,24 @@ fn has_warning(decided: &Option<Profile>) -> bool
 }
 
 /// What is asked about, and the profile that decides.
-fn question_value(alloc: Global, who: &Who) -> Result<Value, AllocError>
-    ensures { IfOk result (λ value. view value ≡ question_value who.now) }
+fn asked_value(
+    alloc: Global,
+    kind: &str,
+    active: bool,
+    wanted: &Wanted,
+    decided: &Option<Profile>,
+) -> Result<Value, AllocError>
+    ensures { IfOk result (λ value. view value ≡ asked_value kind.now active wanted.now decided.now) }
 {
-    let (class, resource, level) = (
-        who.wanted.class(),
-        who.wanted.resource(),
-        who.wanted.level(),
-    );
-    let taken = taken_value(alloc, &who.wanted)?;
-    let group = group_value(alloc, &who.wanted)?;
-    let pattern = pattern_value(alloc, &who.decided)?;
-    let uacc = uacc_value(alloc, &who.decided)?;
-    let (active, warning) = (who.active, has_warning(&who.decided));
+    let (class, resource, level) = (wanted.class(), wanted.resource(), wanted.level());
+    let taken = taken_value(alloc, wanted)?;
+    let group = group_value(alloc, wanted)?;
+    let pattern = pattern_value(alloc, decided)?;
+    let uacc = uacc_value(alloc, decided)?;
+    let warning = has_warning(decided);
     let (class, resource, level) = (class.text(), resource.text(), level.text());
     json!(in alloc; {
-        "active": active, "as": taken, "class": class, "group": group, "kind": "question", "level": level,
+        "active": active, "as": taken, "class": class, "group": group, "kind": kind, "level": level,
         "pattern": pattern, "resource": resource, "uacc": uacc, "warning": warning
     })
 }
@@ -149,7 +156,7 @@ fn source_value(alloc: Global, held: &Option<HeldLevel>) -> Result<Value, AllocE
     Value::try_from_str(alloc, text.as_str())
 }
 
-/// The console that the entry is for alone.
+/// The only console that the entry is for.
 fn place_value(alloc: Global, held: &Option<HeldLevel>) -> Result<Value, AllocError>
     ensures { IfOk result (λ value. view value ≡ text_or_null (place_words held.now)) }
 {
@@ -162,20 +169,32 @@ fn place_value(alloc: Global, held: &Option<HeldLevel>) -> Result<Value, AllocEr
     }
 }
 
-/// The rule that decided, or why the user does not get on.
+fn ruling_value(alloc: Global, ruling: &Option<Ruling>) -> Result<Value, AllocError>
+    ensures { IfOk result (λ value. view value ≡ text_or_null (ruling_words ruling.now)) }
+{
+    let Some(ruling) = ruling else {
+        return Ok(Value::Null);
+    };
+    let text = ruling.rule().text(alloc)?;
+    Value::try_from_str(alloc, text.as_str())
+}
+
+/// The rule that decided, or what is said in its place.
 fn rule_value(
     alloc: Global,
     ruling: &Option<Ruling>,
-    no_logon: &Option<NoLogon>,
+    instead: &Option<Instead>,
 ) -> Result<Value, AllocError>
-    ensures { IfOk result (λ value. view value ≡ text_or_null (rule_words ruling.now no_logon.now)) }
+    ensures { IfOk result (λ value. view value ≡ text_or_null (rule_words ruling.now instead.now)) }
 {
-    let text = match (no_logon, ruling) {
-        (Some(no_logon), _) => no_logon_text(alloc, no_logon)?,
-        (None, Some(ruling)) => ruling.rule().text(alloc)?,
-        (None, None) => return Ok(Value::Null),
-    };
-    Value::try_from_str(alloc, text.as_str())
+    match instead {
+        Some(Instead::NoLogon(no_logon)) => {
+            let text = no_logon_text(alloc, no_logon)?;
+            Value::try_from_str(alloc, text.as_str())
+        }
+        Some(Instead::NoDigest) => Value::try_from_str(alloc, "NODIGEST"),
+        Some(Instead::Hidden) | None => ruling_value(alloc, ruling),
+    }
 }
 
 fn user_value(alloc: Global, line: &UserLine) -> Result<Value, AllocError>
@@ -183,9 +202,9 @@ fn user_value(alloc: Global, line: &UserLine) -> Result<Value, AllocError>
 {
     let place = place_value(alloc, &line.held)?;
     let held = held_value(alloc, &line.held)?;
-    let rule = rule_value(alloc, &line.ruling, &line.no_logon)?;
+    let rule = rule_value(alloc, &line.ruling, &line.instead)?;
     let source = source_value(alloc, &line.held)?;
-    let (id, verdict) = (line.id.text(), verdict_word(&line.ruling, &line.no_logon));
+    let (id, verdict) = (line.id.text(), verdict_word(&line.ruling, &line.instead));
     json!(in alloc; {
         "at": place, "held": held, "id": id, "kind": "user", "rule": rule, "source": source, "verdict": verdict
     })
@@ -196,11 +215,11 @@ fn console_value(alloc: Global, line: &ConsoleLine) -> Result<Value, AllocError>
 {
     let rule = line.ruling.rule().text(alloc)?;
     let (auto, id) = (line.own, line.name.text());
-    let (rule, verdict) = (rule.as_str(), ruling_word(&line.ruling));
+    let (rule, verdict) = (rule.as_str(), console_word(line));
     json!(in alloc; {"auto": auto, "id": id, "kind": "console", "rule": rule, "verdict": verdict})
 }
 
-/// The line of a user, unless only those are asked for who may.
+/// The line of a user, unless only users who may are requested and this one may not.
 #[tactic(auto, using(crate::proofs::Floats::user_so))]
 fn user_json(alloc: Global, line: &UserLine, allowed: bool) -> Result<String, AllocError>
     ensures { IfOk result (λ text. string_bytes text ≡ user_json allowed line.now) }
@@ -212,7 +231,7 @@ fn user_json(alloc: Global, line: &UserLine, allowed: bool) -> Result<String, Al
     json_line(alloc, &value)
 }
 
-/// The line of a console, unless only those are asked for that may.
+/// The line of a console, unless only consoles that may are requested and this one may not.
 #[tactic(auto, using(crate::proofs::Floats::console_so))]
 fn console_json(alloc: Global, line: &ConsoleLine, allowed: bool) -> Result<String, AllocError>
     ensures { IfOk result (λ text. string_bytes text ≡ console_json allowed line.now) }
@@ -224,13 +243,40 @@ fn console_json(alloc: Global, line: &ConsoleLine, allowed: bool) -> Result<Stri
     json_line(alloc, &value)
 }
 
-/// What is asked about, and the profile that decides: the first line.
-#[tactic(auto, using(crate::proofs::Floats::question_so))]
-pub fn question_json(alloc: Global, who: &Who) -> Result<String, AllocError>
-    ensures { IfOk result (λ text. string_bytes text ≡ json_line (question_value who.now)) }
+/// What is asked about, and the profile that decides, as a line.
+#[tactic(auto, using(crate::proofs::Floats::asked_so))]
+fn asked_json(
+    alloc: Global,
+    kind: &str,
+    active: bool,
+    wanted: &Wanted,
+    decided: &Option<Profile>,
+) -> Result<String, AllocError>
+    ensures { IfOk result (λ text. string_bytes text
+        ≡ json_line (asked_value kind.now active wanted.now decided.now)) }
 {
-    let value = question_value(alloc, who)?;
+    let value = asked_value(alloc, kind, active, wanted, decided)?;
     json_line(alloc, &value)
+}
+
+/// The line that a command asks for, as a question of its own.
+fn shows_json(alloc: Global, active: bool, shows: &Option<Shows>) -> Result<String, AllocError>
+    ensures { IfOk result (λ text. string_bytes text ≡ shows_json active shows.now) }
+{
+    let Some(shows) = shows else {
+        return Ok(String::new(alloc));
+    };
+    let wanted = line_wanted(&shows.need);
+    asked_json(alloc, "shows", active, &wanted, &shows.decided)
+}
+
+/// What is asked about, with the profiles that decide: the first lines.
+pub fn beginning_json(alloc: Global, who: &Who) -> Result<String, AllocError>
+    ensures { IfOk result (λ text. string_bytes text ≡ beginning_json who.now) }
+{
+    let mut text = asked_json(alloc, "question", who.active, &who.wanted, &who.decided)?;
+    text.push_str(shows_json(alloc, who.active, &who.shows)?.as_str())?;
+    Ok(text)
 }
 
 /// A line for each user; if `allowed` is set, for those alone who may.
@@ -254,7 +300,7 @@ fn console_lines(alloc: Global, lines: &[ConsoleLine], allowed: bool) -> Result<
     Ok(text)
 }
 
-/// A line for each console, if a command is asked about; if `allowed` is set, for those alone that may.
+/// A line for each console, if the question is about a command; if `allowed` is set, only for those that may.
 pub fn consoles_json(
     alloc: Global,
     lines: &Option<Rows<ConsoleLine>>,

@@ -2,6 +2,7 @@
 #![tactic(auto)]
 
 pub mod answer;
+pub mod beginning;
 pub mod consoles;
 pub mod counts;
 mod deciding;
@@ -16,8 +17,10 @@ pub mod needed;
 pub mod question;
 mod raised;
 pub mod room;
+pub mod shows;
 pub mod text;
 pub mod wanted;
 pub mod who;
 pub mod why;
 mod why_json;
+mod why_text;

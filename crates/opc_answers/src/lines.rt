@@ -1,18 +1,31 @@
-//! What is said of users.
+//! The lines of users.
 ghost use Rattle.std.specs.Prelude.{◌≡◌, IfOk, Some, unwrap_or};
 ghost use Rattle.std.specs.Option.{option_copied};
 ghost use Rattle.opc_policy.specs.Rulings.{console_ruling};
+ghost use Rattle.opc_policy.specs.declared.ruling.Ruling.TheVariants.{Allowed};
+ghost use Rattle.opc_terms.specs.declared.rule.Rule.TheVariants.{NoProfile};
 ghost use Rattle.opc_names.specs.declared.class.Class.TheVariants.{Opercmds};
 ghost use Rattle.opc_policy_members.specs.Members.{user_of};
-ghost use Rattle.opc_machine.specs.Rulings.{ruling};
+ghost use Rattle.opc_machine.specs.Rulings.{logon_ruling, ruling};
 ghost use Rattle.opc_answers.specs.Deciding.{decider};
 ghost use Rattle.opc_answers.specs.Made.{state_of};
-ghost use Rattle.opc_answers.specs.Who.{by_profile, is_denied, line_of, member_line, on_at, or_authority};
+ghost use Rattle.opc_answers.specs.Who.{
+  by_profile,
+  is_denied,
+  line_of,
+  logon_line,
+  member_line,
+  on_at,
+  or_admitted,
+  or_authority,
+};
 
-use crate::logons::NoLogon;
-use crate::members::Member;
+use crate::deciding::deciding;
+use crate::logons::{Instead, resource_of};
+use crate::members::UserWithGroups;
 use crate::room::Room;
 use opc_board::rows::ConsoleRow;
+use opc_names::class::Class;
 use opc_names::level::Level;
 use opc_names::name::{ConsoleName, GroupName, UserId};
 use opc_policy::ruling::{Ruling, console_ruling, ruling_at};
@@ -24,17 +37,17 @@ use opc_terms::need::Need;
 use opc_terms::rule::Rule;
 use std::alloc::{AllocError, Global};
 
-/// What is said of a user: the ruling, if there is one; the level held in the profile that decides, with its source, if
-/// it was asked; and why the user does not get on, if that says more than the ruling.
+/// The line of a user: the ruling, if there is one; the level held in the profile that decides, with its source, if the
+/// profile was consulted; and what replaces the ruling, if that says more.
 #[derive(Clone, Copy)]
 pub struct UserLine {
     pub id: UserId,
     pub ruling: Option<Ruling>,
     pub held: Option<HeldLevel>,
-    pub no_logon: Option<NoLogon>,
+    pub instead: Option<Instead>,
 }
 
-/// What the profile that decides says of a user, at a console if one is given; nothing if none decides.
+/// The line of a user by the profile that decides, at a console if one is given; without a ruling if none decides.
 fn by_profile(
     decided: Option<&Profile>,
     console: Option<&ConsoleName>,
@@ -50,7 +63,7 @@ fn by_profile(
             id: user.id,
             ruling: None,
             held: None,
-            no_logon: None,
+            instead: None,
         };
     };
     let held = held_from(profile, user, console, groups);
@@ -58,11 +71,11 @@ fn by_profile(
         id: user.id,
         ruling: Some(ruling_at(profile, held.level, needed)),
         held: Some(held),
-        no_logon: None,
+        instead: None,
     }
 }
 
-/// The same, and who is revoked is denied.
+/// The same, and a revoked user is denied.
 fn line_of(
     decided: Option<&Profile>,
     console: Option<&ConsoleName>,
@@ -77,18 +90,18 @@ fn line_of(
             id: user.id,
             ruling: Some(Ruling::Denied(Rule::Revoked)),
             held: None,
-            no_logon: None,
+            instead: None,
         };
     }
     by_profile(decided, console, needed, groups, user)
 }
 
-/// What is said of a user with these groups.
+/// The line of a user with these groups.
 pub(crate) fn member_line(
     decided: Option<&Profile>,
     console: Option<&ConsoleName>,
     needed: Level,
-    member: &Member,
+    member: &UserWithGroups,
 ) -> UserLine
     ensures { result ≡ member_line (option_copied decided.entry) (option_copied console.entry) needed member.now }
 {
@@ -119,8 +132,45 @@ pub(crate) fn or_authority(console: &ConsoleRow, need: &Need, line: &UserLine) -
         id: line.id,
         ruling: Some(ruling_or(console, need, line.ruling)),
         held: line.held,
-        no_logon: line.no_logon,
+        instead: line.instead,
     }
+}
+
+/// The ruling on a LOGON: one that no profile decides is allowed.
+fn admitted_or(ruling: Option<Ruling>) -> Ruling
+    ensures { result ≡ unwrap_or ruling (Allowed NoProfile) }
+{
+    match ruling {
+        Some(ruling) => ruling,
+        None => Ruling::Allowed(Rule::NoProfile),
+    }
+}
+
+/// The line of a user who logs on with the stored password.
+fn or_admitted(line: &UserLine) -> UserLine
+    ensures { result ≡ or_admitted line.now }
+{
+    UserLine {
+        id: line.id,
+        ruling: Some(admitted_or(line.ruling)),
+        held: line.held,
+        instead: line.instead,
+    }
+}
+
+/// The line of a user who logs on: nobody without a digest may.
+pub(crate) fn logon_line(user: &User, line: &UserLine) -> UserLine
+    ensures { result ≡ logon_line user.now line.now }
+{
+    if user.digest.is_none() {
+        return UserLine {
+            id: user.id,
+            ruling: None,
+            held: None,
+            instead: Some(Instead::NoDigest),
+        };
+    }
+    or_admitted(line)
 }
 
 /// Whether a ruling denies.
@@ -133,7 +183,7 @@ pub(crate) fn is_denied(ruling: &Option<Ruling>) -> bool
     }
 }
 
-/// The ruling on a command at a console with this user on.
+/// The ruling on a command at a console where this user is logged on.
 pub(crate) fn ruling_with(
     alloc: Global,
     room: &Room,
@@ -150,4 +200,21 @@ pub(crate) fn ruling_with(
     let groups = room.policy.connects.groups_of(alloc, &user.id)?;
     let line = line_of(decided, Some(&console.name), need.level, &groups, user);
     Ok(ruling_or(console, need, line.ruling))
+}
+
+/// The ruling on a LOGON of this user at a console, if the password is the one that is stored.
+pub(crate) fn logon_ruling(
+    alloc: Global,
+    room: &Room,
+    console: &ConsoleRow,
+    user: &User,
+) -> Result<Ruling, AllocError>
+    ensures { IfOk result (λ answer. answer ≡ logon_ruling (state_of room.now.policy room.now.board) console.now
+        user.now) }
+{
+    let resource = resource_of(&console.name);
+    let decided = deciding(&room.policy, Class::Console, &resource);
+    let groups = room.policy.connects.groups_of(alloc, &user.id)?;
+    let line = line_of(decided, Some(&console.name), Level::Read, &groups, user);
+    Ok(admitted_or(line.ruling))
 }

@@ -1,12 +1,13 @@
-//! Who gets on at a console: by a logon, or as the user for whom the console acts where nobody is on.
+//! Who can act at a console: by a logon, or as the user for whom the console acts while unattended.
 ghost use Rattle.std.specs.Prelude.{◌≡◌};
 ghost use Rattle.std.specs.List.{list_any};
-ghost use Rattle.std.specs.Option.{option_copied};
+ghost use Rattle.std.specs.Option.{is_none, option_copied, option_map};
+ghost use Rattle.opc_answers.specs.declared.logons.Instead.TheVariants.{NoLogon as Off};
 ghost use Rattle.opc_answers.specs.Logons.{acts_for, by_profile, denied_by, gets_on, nowhere};
 ghost use Rattle.opc_answers.specs.Logons.{Door as TheDoor};
 
 use crate::deciding::deciding;
-use crate::members::Member;
+use crate::members::UserWithGroups;
 use opc_board::rows::ConsoleRow;
 use opc_names::class::Class;
 use opc_names::level::Level;
@@ -18,13 +19,33 @@ use opc_terms::mode::Mode;
 use opc_terms::rule::Rule;
 use std::marker::Model;
 
-/// Why a user does not get on: a rule denies the logon, no digest of a password is stored, or no console admits the
-/// user.
+/// Why a user cannot log on: a rule denies the logon, no digest of a password is stored, or no console admits the user.
 #[derive(Clone, Copy)]
 pub enum NoLogon {
     Denied(Rule),
     NoDigest,
     NoConsole,
+}
+
+/// What replaces a ruling.
+#[derive(Clone, Copy)]
+pub enum Instead {
+    /// The user may, but cannot log on.
+    NoLogon(NoLogon),
+    /// A LOGON is denied, since no digest of a password is stored.
+    NoDigest,
+    /// The command is done, and the line that it asks for is left out, as is ruled.
+    Hidden,
+}
+
+/// The reason why a user cannot log on, in the place of a ruling, if there is one.
+pub(crate) fn off_for(no_logon: Option<NoLogon>) -> Option<Instead>
+    ensures { result ≡ option_map Off no_logon }
+{
+    match no_logon {
+        Some(why) => Some(Instead::NoLogon(why)),
+        None => None,
+    }
 }
 
 /// A console, and the profile that decides who may log on there.
@@ -43,7 +64,8 @@ impl<'a> Model for Door<'a> {
     ghost view = { λ d. record { console = d.console; profile = option_copied d.profile } };
 }
 
-fn resource_of(name: &ConsoleName) -> Resource
+/// The resource of a console in class CONSOLE.
+pub(crate) fn resource_of(name: &ConsoleName) -> Resource
     ensures { result ≡ name.now }
 {
     name.as_kind()
@@ -59,7 +81,11 @@ fn denied_by(ruling: Ruling) -> Option<NoLogon>
 }
 
 /// By the profile that decides. If none does, the user is admitted.
-fn by_profile(decided: Option<&Profile>, console: &ConsoleRow, member: &Member) -> Option<NoLogon>
+fn by_profile(
+    decided: Option<&Profile>,
+    console: &ConsoleRow,
+    member: &UserWithGroups,
+) -> Option<NoLogon>
     ensures { result ≡ by_profile (option_copied decided.entry) console.now member.now }
 {
     let profile = decided?;
@@ -73,8 +99,22 @@ fn by_profile(decided: Option<&Profile>, console: &ConsoleRow, member: &Member) 
     ))
 }
 
+/// Whether the profile that decides admits the user; if none does, the user is admitted. It makes no rule, since many
+/// consoles are asked for each user.
+#[tactic(auto, using(crate::proofs::Admitted::admits_by))]
+fn is_admitted(decided: Option<&Profile>, console: &ConsoleRow, member: &UserWithGroups) -> bool
+    ensures { result ≡ is_none (by_profile (option_copied decided.entry) console.now member.now) }
+{
+    let Some(profile) = decided else {
+        return true;
+    };
+    let groups = member.groups.as_slice();
+    let held = profile.level_of(&member.user, Some(&console.name), groups);
+    held.includes(Level::Read) || profile.warning
+}
+
 /// Whether the console acts for this user where nobody is on.
-fn acts_for(console: &ConsoleRow, member: &Member) -> bool
+fn acts_for(console: &ConsoleRow, member: &UserWithGroups) -> bool
     ensures { result ≡ acts_for console.now member.now }
 {
     match console.mode {
@@ -86,7 +126,7 @@ fn acts_for(console: &ConsoleRow, member: &Member) -> bool
 impl<'a> Door<'a> {
     ghost use Rattle.opc_answers.specs.Logons.{door_of, no_logon, refusal};
 
-    /// That of a console.
+    /// The door of a console.
     pub(crate) fn of(policy: &'a Policy, console: &ConsoleRow) -> Self
         ensures { result ≡ door_of policy.entry.now console.now }
     {
@@ -98,7 +138,7 @@ impl<'a> Door<'a> {
     }
 
     /// Why a user is not admitted.
-    fn refusal(&self, member: &Member) -> Option<NoLogon>
+    fn refusal(&self, member: &UserWithGroups) -> Option<NoLogon>
         ensures { result ≡ refusal self.now member.now }
     {
         if member.user.digest.is_none() {
@@ -110,8 +150,8 @@ impl<'a> Door<'a> {
         by_profile(self.profile, &self.console, member)
     }
 
-    /// Why a user does not get on.
-    pub(crate) fn no_logon(&self, member: &Member) -> Option<NoLogon>
+    /// Why a user cannot log on.
+    pub(crate) fn no_logon(&self, member: &UserWithGroups) -> Option<NoLogon>
         ensures { result ≡ no_logon self.now member.now }
     {
         if acts_for(&self.console, member) {
@@ -120,24 +160,32 @@ impl<'a> Door<'a> {
         self.refusal(member)
     }
 
-    fn lets_on(&self, member: &Member) -> bool
+    /// Whether there is no reason why a user cannot log on.
+    fn lets_on(&self, member: &UserWithGroups) -> bool
         ensures { result ≡ gets_on member.now self.now }
     {
-        self.no_logon(member).is_none()
+        if acts_for(&self.console, member) {
+            return true;
+        }
+        let user = &member.user;
+        if user.digest.is_none() || user.revoked {
+            return false;
+        }
+        is_admitted(self.profile, &self.console, member)
     }
 }
 
-fn is_let_on(member: &Member, doors: &[Door<'_>]) -> bool
+fn is_let_on(member: &UserWithGroups, doors: &[Door<'_>]) -> bool
     ensures { result ≡ list_any (gets_on member.now) doors.now }
 {
     doors.iter().any(|door| door.lets_on(member))
 }
 
-/// That a user gets on at none of some consoles, if there are consoles.
-pub(crate) fn nowhere(member: &Member, doors: &[Door<'_>]) -> Option<NoLogon>
+/// That a user can log on at none of some consoles.
+pub(crate) fn nowhere(member: &UserWithGroups, doors: &[Door<'_>]) -> Option<NoLogon>
     ensures { result ≡ nowhere member.now doors.now }
 {
-    if doors.is_empty() || is_let_on(member, doors) {
+    if is_let_on(member, doors) {
         return None;
     }
     Some(NoLogon::NoConsole)

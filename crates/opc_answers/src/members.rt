@@ -22,7 +22,7 @@ use std::collections::BTreeSet;
 
 /// A user, and the groups that the user is connected to, in order.
 #[derive(Drop)]
-pub(crate) struct Member {
+pub(crate) struct UserWithGroups {
     pub(crate) user: User,
     pub(crate) groups: Rows<GroupName>,
 }
@@ -36,6 +36,7 @@ fn keep_connect(connects: &mut BTreeSet<Connect>, row: &Row) -> Result<(), Alloc
             connects.insert(Connect { user, group })?;
             Ok(())
         }
+        // No other row connects a user.
         _ => Ok(()),
     }
 }
@@ -121,14 +122,14 @@ pub(crate) fn members_made(
     alloc: Global,
     users: &[User],
     connects: &[Connect],
-) -> Result<Rows<Member>, AllocError>
+) -> Result<Rows<UserWithGroups>, AllocError>
     requires { IsStrictlySortedBy connect_cmp connects.now }
     ensures { IfOk result (λ members. members ≡ map (member_of connects.now) users.now) }
 {
     let mut members = Rows::new(alloc);
     for user in users {
         let groups = groups_in(alloc, connects, &user.id)?;
-        members.push(Member {
+        members.push(UserWithGroups {
             user: *user,
             groups,
         })?;

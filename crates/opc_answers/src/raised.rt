@@ -2,7 +2,7 @@
 ghost use Rattle.std.specs.Prelude.{◌≡◌, IfOk};
 ghost use Rattle.std.specs.List.{list_any};
 ghost use Rattle.std.specs.Option.{option_copied};
-ghost use Rattle.opc_answers.specs.Who.{is_for, is_named, is_raised, named};
+ghost use Rattle.opc_answers.specs.Who.{is_for, is_named, is_named_by, is_raised, named};
 
 use crate::lines::UserLine;
 use opc_board::rows::ConsoleRow;
@@ -35,17 +35,26 @@ fn is_named(decided: Option<&Profile>, console: &ConsoleRow) -> bool
     }
 }
 
-/// The consoles that entries of the profile that decides are for.
+/// Whether an entry of either profile is for this console alone.
+fn is_named_by(decided: Option<&Profile>, line: Option<&Profile>, console: &ConsoleRow) -> bool
+    ensures { result ≡ is_named_by (option_copied decided.entry) (option_copied line.entry) console.now }
+{
+    is_named(decided, console) || is_named(line, console)
+}
+
+/// The consoles that entries of the profiles that decide are for: about a command, and about its line.
 pub(crate) fn named(
     alloc: Global,
     decided: Option<&Profile>,
+    line: Option<&Profile>,
     consoles: &[ConsoleRow],
 ) -> Result<Vec<ConsoleRow>, AllocError>
-    ensures { IfOk result (λ list. list.items ≡ named (option_copied decided.entry) consoles.now) }
+    ensures { IfOk result (λ list. list.items ≡ named (option_copied decided.entry) (option_copied line.entry)
+        consoles.now) }
 {
     let mut list = Vec::new(alloc);
     for console in consoles {
-        if is_named(decided, console) {
+        if is_named_by(decided, line, console) {
             list.push(*console)?;
         }
     }

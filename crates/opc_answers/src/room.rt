@@ -7,7 +7,7 @@ ghost use Rattle.opc_state.specs.State.{empty};
 ghost use Rattle.opc_terms.specs.declared.fault.Fault.TheVariants as why;
 ghost use Rattle.opc_answers.specs.Made.{members_of, state_of, user_after, users_after};
 
-use crate::members::{Member, connects_made, members_made};
+use crate::members::{UserWithGroups, connects_made, members_made};
 use opc_board::board::{Board, BoardRows};
 use opc_names::name::UserId;
 use opc_policy_members::policy::Policy;
@@ -18,11 +18,11 @@ use opc_terms::fault::Fault;
 use std::alloc::{AllocError, Global};
 use std::collections::BTreeMap;
 
-/// A policy, its users in order with their groups, and a board with its consoles: what a question is answered by.
+/// A policy, its users in order with their groups, and a board with its consoles: by which a question is answered.
 #[derive(Drop)]
 pub struct Room {
     pub(crate) policy: Policy,
-    pub(crate) members: Rows<Member>,
+    pub(crate) members: Rows<UserWithGroups>,
     pub(crate) board: Board,
 }
 
@@ -38,6 +38,7 @@ fn keep_user(users: &mut BTreeMap<UserId, User>, row: &Row) -> Result<(), AllocE
             users.insert(user.id, user)?;
             Ok(())
         }
+        // No other row defines a user.
         _ => Ok(()),
     }
 }
@@ -75,7 +76,7 @@ fn empty_board(alloc: Global) -> Board
     };
     match Board::of(rows) {
         Ok(board) => board,
-        // No row is out of order if there is none.
+        // Without rows, none is out of order.
         Err(_) => unreachable!(),
     }
 }
@@ -85,6 +86,7 @@ fn define_console(board: &mut Board, row: &Row) -> Result<(), AllocError>
 {
     match *row {
         Row::Console { name, auth, mode } => board.define_console(name, auth, mode),
+        // No other row defines a console.
         _ => Ok(()),
     }
 }

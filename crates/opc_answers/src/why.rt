@@ -1,38 +1,40 @@
-//! Why a user, or nobody, may or may not, and the text of it.
-ghost use Rattle.std.specs.Prelude.{◌≡◌, ◌≢◌, IfErr, IfOk, Ok, Err, string_bytes};
-ghost use Rattle.std.specs.List.{flat_map};
+//! Why a user, or nobody, may or may not.
+ghost use Rattle.std.specs.Prelude.{◌≡◌, ◌≢◌, IfErr, IfOk, Ok, Err};
 ghost use Rattle.std.specs.Option.{option_copied, option_or};
 ghost use Rattle.opc_terms.specs.declared.fault.Fault.TheVariants.{NoMemory};
-ghost use Rattle.opc_policy.specs.Explained.{covers_line, explanation};
+ghost use Rattle.opc_policy.specs.Explained.{explanation};
 ghost use Rattle.opc_answers.specs.Made.{state_of};
 ghost use Rattle.opc_policy_sources.specs.Levels.{covering_levels};
-ghost use Rattle.opc_answers.specs.Explaining.{explained_in};
 ghost use Rattle.opc_answers.specs.Who.{class_of, level_of, resource_of};
 ghost use Rattle.opc_answers.specs.Why.{
+  both_whys,
   command_covers,
   covers_of,
-  covers_text,
+  ruling_in,
+  said_of_whys,
   why_access,
   why_command,
   why_in,
+  why_plain,
   with_levels,
 };
 
-use crate::explaining::explained_in;
-use crate::logons::NoLogon;
+use crate::explaining::{CommandExplained, explained_in, logon_explained};
+use crate::logons::Instead;
 use crate::room::Room;
-use crate::text::{needs_text, no_logon_text};
-use crate::wanted::{Entered, Wanted};
-use opc_names::name::{ConsoleName, Pattern, UserId};
+use crate::shows::{Said, said_of};
+use crate::wanted::{Wanted, line_wanted};
+use opc_names::name::{ConsoleName, UserId};
 use opc_policy::explained::{Patterns, explain};
+use opc_policy::ruling::Ruling;
 use opc_policy::verdict::Verdict;
 use opc_policy_members::policy::Policy;
 use opc_policy_sources::levels::{CoveringLevel, covering_levels};
-use opc_policy_sources::levels_text::levels_text;
 use opc_rows::Rows;
 use opc_terms::fault::Fault;
+use opc_terms::need::Need;
 use opc_terms::rule::Rule;
-use std::alloc::{AllocError, Global};
+use std::alloc::Global;
 
 /// The profiles that cover, as they are shown: none, if nobody acts; their patterns; or these with the level that is
 /// held in each.
@@ -43,17 +45,25 @@ pub enum Covers {
     Levels(Rows<CoveringLevel>),
 }
 
-/// What is wanted, by whom and where, the profiles that cover, the verdict with its rule, and why the user does not get
-/// on, if that says more.
+/// What the line needs that a command asks for, and the profiles that cover it.
 #[derive(Drop)]
-pub struct Why {
+pub struct LineExplained {
+    pub need: Need,
+    pub covers: Covers,
+}
+
+/// What is wanted, by whom and where, the profiles that cover, the line that a command asks for, the verdict with its
+/// rule, and what is said in their place, if that says more.
+#[derive(Drop)]
+pub struct Explanation {
     pub wanted: Wanted,
     pub actor: Option<UserId>,
     pub console: Option<ConsoleName>,
     pub covers: Covers,
+    pub line: Option<LineExplained>,
     pub verdict: Verdict,
     pub rule: Rule,
-    pub no_logon: Option<NoLogon>,
+    pub instead: Option<Instead>,
 }
 
 /// The profiles that cover, with the level that a user holds in each.
@@ -74,7 +84,7 @@ fn with_levels(
     Ok(Covers::Levels(Rows::of(levels)))
 }
 
-/// The profiles that cover, as they are shown of who acts.
+/// The profiles that cover, as they are shown for the acting user.
 fn covers_of(
     alloc: Global,
     policy: &Policy,
@@ -98,7 +108,7 @@ fn covers_of(
     }
 }
 
-/// Of a level of access the profiles alone decide.
+/// On a level of access the profiles alone decide.
 fn why_access(
     alloc: Global,
     policy: &Policy,
@@ -106,7 +116,7 @@ fn why_access(
     wanted: &Wanted,
     id: &UserId,
     console: Option<&ConsoleName>,
-) -> Result<Why, Fault>
+) -> Result<Explanation, Fault>
     ensures ok { IfOk result (λ why. why_access policy.now levels wanted.now id.now (option_copied console.entry)
         (explanation policy.now (class_of wanted.now) (resource_of wanted.now) id.now (option_copied console.entry)
         (level_of wanted.now)) ≡ Ok why) }
@@ -117,14 +127,15 @@ fn why_access(
     let (class, resource, level) = (wanted.class(), wanted.resource(), wanted.level());
     let explained = explain(alloc, policy, class, &resource, id, console, level)?;
     let (patterns, verdict, rule) = (explained.covering, explained.verdict, explained.rule);
-    Ok(Why {
+    Ok(Explanation {
         wanted: *wanted,
         actor: Some(*id),
         console: console.copied(),
         covers: covers_of(alloc, policy, wanted, levels, patterns, Some(id), console)?,
+        line: None,
         verdict,
         rule,
-        no_logon: None,
+        instead: None,
     })
 }
 
@@ -169,48 +180,110 @@ fn command_covers(
     )
 }
 
-/// Of a command it is as the machine rules.
+/// On a command and on a LOGON, the answer is the machine's ruling.
 fn why_command(
     alloc: Global,
-    room: &Room,
+    policy: &Policy,
     levels: bool,
-    entered: &Entered,
+    wanted: &Wanted,
     actor: Option<&UserId>,
     console: Option<&ConsoleName>,
-) -> Result<Why, Fault>
-    ensures ok { IfOk result (λ why. why_command room.now.policy levels entered.now (option_copied actor.entry)
-        (option_copied console.entry) (explained_in (state_of room.now.policy room.now.board) entered.now.need
-        (option_copied actor.entry) (option_copied console.entry)) ≡ Ok why) }
-    ensures fault { IfErr result (λ fault. fault ≢ NoMemory → why_command room.now.policy levels entered.now
-        (option_copied actor.entry) (option_copied console.entry) (explained_in
-        (state_of room.now.policy room.now.board) entered.now.need (option_copied actor.entry)
-        (option_copied console.entry)) ≡ Err fault) }
+    explained: CommandExplained,
+) -> Result<Explanation, Fault>
+    ensures ok { IfOk result (λ why. why_command policy.now levels wanted.now (option_copied actor.entry)
+        (option_copied console.entry) (Ok explained) ≡ Ok why) }
+    ensures fault { IfErr result (λ fault. fault ≢ NoMemory → why_command policy.now levels wanted.now
+        (option_copied actor.entry) (option_copied console.entry) (Ok explained) ≡ Err fault) }
 {
-    let explained = explained_in(alloc, room, &entered.need, actor, console)?;
-    let (covering, no_logon) = (explained.covering, explained.no_logon);
+    let (covering, instead) = (explained.covering, explained.instead);
     let (verdict, rule) = (explained.verdict, explained.rule);
-    let wanted = Wanted::Command(*entered);
-    Ok(Why {
-        wanted,
+    Ok(Explanation {
+        wanted: *wanted,
         actor: actor.copied(),
         console: console.copied(),
-        covers: command_covers(
-            alloc,
-            &room.policy,
-            &wanted,
-            levels,
-            covering,
-            actor,
-            console,
-        )?,
+        covers: command_covers(alloc, policy, wanted, levels, covering, actor, console)?,
+        line: None,
         verdict,
         rule,
-        no_logon,
+        instead,
     })
 }
 
+/// The ruling that a verdict is, if it decides.
+fn ruling_in(verdict: Verdict, rule: Rule) -> Option<Ruling>
+    ensures { result ≡ ruling_in verdict rule }
+{
+    match verdict {
+        Verdict::Allowed => Some(Ruling::Allowed(rule)),
+        Verdict::Denied => Some(Ruling::Denied(rule)),
+        Verdict::Undecided => None,
+    }
+}
+
+/// Which of them is said of a command and of its line: that the user cannot log on comes before both.
+fn said_of_whys(command: &Explanation, line: &Explanation) -> Said
+    ensures { result ≡ said_of_whys command.now line.now }
+{
+    if command.instead.is_some() {
+        return Said::OfCommand;
+    }
+    let ruled = ruling_in(command.verdict, command.rule);
+    said_of(&ruled, &ruling_in(line.verdict, line.rule))
+}
+
+/// Why a command may or may not be entered, with the line that it asks for.
+fn both_whys(command: Explanation, line: Explanation, need: &Need) -> Explanation
+    ensures { both_whys need.now (Ok command) (Ok line) ≡ Ok result }
+{
+    let said = said_of_whys(&command, &line);
+    let (verdict, rule, instead) = match said {
+        Said::OfCommand => (command.verdict, command.rule, command.instead),
+        Said::OfLine => (line.verdict, line.rule, None),
+        Said::Hidden => (line.verdict, line.rule, Some(Instead::Hidden)),
+    };
+    Explanation {
+        wanted: command.wanted,
+        actor: command.actor,
+        console: command.console,
+        covers: command.covers,
+        line: Some(LineExplained {
+            need: *need,
+            covers: line.covers,
+        }),
+        verdict,
+        rule,
+        instead,
+    }
+}
+
+/// Without the line that a command asks for.
+fn why_plain(
+    alloc: Global,
+    room: &Room,
+    levels: bool,
+    wanted: &Wanted,
+    actor: Option<&UserId>,
+    console: Option<&ConsoleName>,
+) -> Result<Explanation, Fault>
+    ensures ok { IfOk result (λ why. why_plain (state_of room.now.policy room.now.board) levels wanted.now
+        (option_copied actor.entry) (option_copied console.entry) ≡ Ok why) }
+    ensures fault { IfErr result (λ fault. fault ≢ NoMemory → why_plain (state_of room.now.policy room.now.board)
+        levels wanted.now (option_copied actor.entry) (option_copied console.entry) ≡ Err fault) }
+{
+    let policy = &room.policy;
+    let explained = match (wanted, actor) {
+        (Wanted::Command(entered), _) => explained_in(alloc, room, &entered.need, actor, console)?,
+        (Wanted::Logon(name), _) => logon_explained(alloc, room, name, actor)?,
+        (Wanted::Access { .. }, Some(id)) => {
+            return why_access(alloc, policy, levels, wanted, id, console);
+        }
+        (Wanted::Access { .. }, None) => return Err(Fault::NoConsole),
+    };
+    why_command(alloc, policy, levels, wanted, actor, console, explained)
+}
+
 /// Why a user, or nobody, may or may not, at a console if one is named: with the level that is held in each profile
-/// that covers, or without.
+/// that covers, or without; and with the line that a command asks for, if it asks for one.
 pub(crate) fn why_in(
     alloc: Global,
     room: &Room,
@@ -218,88 +291,16 @@ pub(crate) fn why_in(
     wanted: &Wanted,
     actor: Option<&UserId>,
     console: Option<&ConsoleName>,
-) -> Result<Why, Fault>
+) -> Result<Explanation, Fault>
     ensures ok { IfOk result (λ why. why_in (state_of room.now.policy room.now.board) levels wanted.now
         (option_copied actor.entry) (option_copied console.entry) ≡ Ok why) }
     ensures fault { IfErr result (λ fault. fault ≢ NoMemory → why_in (state_of room.now.policy room.now.board) levels
         wanted.now (option_copied actor.entry) (option_copied console.entry) ≡ Err fault) }
 {
-    match (wanted, actor) {
-        (Wanted::Command(entered), _) => {
-            why_command(alloc, room, levels, entered, actor, console)
-        }
-        (Wanted::Access { .. }, Some(id)) => {
-            why_access(alloc, &room.policy, levels, wanted, id, console)
-        }
-        (Wanted::Access { .. }, None) => Err(Fault::NoConsole),
-    }
-}
-
-fn covers_line(alloc: Global, pattern: &Pattern) -> Result<String, AllocError>
-    ensures { IfOk result (λ text. string_bytes text ≡ covers_line pattern.now) }
-{
-    format!(in alloc; "COVERS {pattern}\n")
-}
-
-fn covers_lines(alloc: Global, patterns: &[Pattern]) -> Result<String, AllocError>
-    ensures { IfOk result (λ text. string_bytes text ≡ flat_map covers_line patterns.now) }
-{
-    let mut text = String::new(alloc);
-    for pattern in patterns {
-        text.push_str(covers_line(alloc, pattern)?.as_str())?;
-    }
-    Ok(text)
-}
-
-/// A line for each profile that covers.
-fn covers_text(alloc: Global, covers: &Covers) -> Result<String, AllocError>
-    ensures { IfOk result (λ text. string_bytes text ≡ covers_text covers.now) }
-{
-    match covers {
-        Covers::Nobody => Ok(String::new(alloc)),
-        Covers::Patterns(patterns) => covers_lines(alloc, patterns.as_slice()),
-        Covers::Levels(levels) => levels_text(alloc, levels.as_slice()),
-    }
-}
-
-impl Why {
-    ghost use Rattle.opc_answers.specs.Why.{said_rule, said_verdict, verdict_line, why_text};
-
-    /// The verdict, or in its place that the user does not get on.
-    pub(crate) fn said_verdict(&self) -> &str
-        ensures { result.now ≡ said_verdict self.now.verdict self.now.no_logon }
-    {
-        match self.no_logon {
-            Some(_) => "NOLOGON",
-            None => self.verdict.text(),
-        }
-    }
-
-    /// The rule, or why the user does not get on.
-    pub(crate) fn said_rule(&self, alloc: Global) -> Result<String, AllocError>
-        ensures { IfOk result (λ text. string_bytes text ≡ said_rule self.now.rule self.now.no_logon) }
-    {
-        match &self.no_logon {
-            Some(no_logon) => no_logon_text(alloc, no_logon),
-            None => self.rule.text(alloc),
-        }
-    }
-
-    fn verdict_line(&self, alloc: Global) -> Result<String, AllocError>
-        ensures { IfOk result (λ text. string_bytes text ≡ verdict_line self.now) }
-    {
-        let (verdict, rule) = (self.said_verdict(), self.said_rule(alloc)?);
-        let rule = rule.as_str();
-        format!(in alloc; "{verdict} {rule}\n")
-    }
-
-    /// What is needed, if a command is asked about, the profiles that cover, and the verdict with its rule.
-    pub fn text(&self, alloc: Global) -> Result<String, AllocError>
-        ensures { IfOk result (λ text. string_bytes text ≡ why_text self.now) }
-    {
-        let mut text = needs_text(alloc, &self.wanted)?;
-        text.push_str(covers_text(alloc, &self.covers)?.as_str())?;
-        text.push_str(self.verdict_line(alloc)?.as_str())?;
-        Ok(text)
-    }
+    let command = why_plain(alloc, room, levels, wanted, actor, console)?;
+    let Some(need) = wanted.line() else {
+        return Ok(command);
+    };
+    let line = why_plain(alloc, room, levels, &line_wanted(&need), actor, console)?;
+    Ok(both_whys(command, line, &need))
 }

@@ -8,3 +8,4 @@ pub mod Deciders
 mod Shown
 mod Whole
 mod Digits
+mod Entering

@@ -42,7 +42,7 @@ use Rattle.std.proofs.lemmas.List.Kept.{AllPairs-cons, AllPairs-filter}
 use Rattle.opc_state.specs.Loads.{numbered}
 use Rattle.opc_state.specs.declared.account.AccountRow.{AccountRow}
 use Rattle.opc_account.specs.Filters.{meets, met}
-use Rattle.opc_account.specs.Queries.{first_number, rows_from, shown}
+use Rattle.opc_account.specs.Queries.{first_number, rows_from}
 use Rattle.opc_answers_laws.specs.AccountLaws.{IsAskedFor, IsStored, RowsAreShownInOrder, ShownRowsAreStored, StoredRowsAreShown}
 
 abbrev Row : Type 0
@@ -74,7 +74,7 @@ all_from k (suc m) [] = All-nil (λ (r : Row). k + suc m ≤ r.0)
 all_from k (suc m) (x ∷ xs) = All-weaker (λ (r : Row). k + 1 + m ≤ r.0) (λ (r : Row). k + suc m ≤ r.0)
     (λ r h. omega (arith, h)) (drop m (enumerate_from (k + 1) xs)) (all_from (k + 1) m xs)
 
--- what is shown is stored and asked for
+-- what is shown is stored and was requested
 pub are_stored : ShownRowsAreStored
 are_stored q account =
     let first = first_number q.first account in
@@ -88,7 +88,7 @@ are_stored q account =
     All-take (λ row. IsStored account row × IsAskedFor q account row) q.count (met q.filter rows)
     (λ k d lt. (kept k d lt, (omega (arith, late k d lt), meeting k d lt)))
 
--- and what is stored and asked for is shown
+-- and what is stored and was requested is shown
 there_more : {X : Type 0} (y : X) (xs : List X) (x : X) → Contains xs x → Contains (y ∷ xs) x
 there_more y xs x h = (suc h.0, omega (arith, h.1), h.2)
 

@@ -1,5 +1,5 @@
 -- A profile has N17 exactly if its pattern is not met.
-use Rattle.std.proofs.Common.{◌≡◌, ◌⊎◌, inl, inr, Bool, true, false, ◌||◌, ℕ, List, map, refl, ap, Option, Some, None}
+use Rattle.std.proofs.Common.{◌≡◌, ◌⊎◌, inl, inr, Bool, true, false, ◌||◌, ℕ, List, map, refl, ap, None}
 use Rattle.std.specs.Prelude.{not}
 use Rattle.std.specs.List.{list_any}
 use Rattle.opc_names.specs.Names.{IsPattern, qualifiers}
@@ -38,7 +38,7 @@ met_if pattern valid h = go (either_true fixed named h)
 met_only : (pattern : List ℕ) → IsPattern pattern → IsMet pattern → is_met pattern ≡ true
 met_only pattern valid h = or_true _ _ (met_meets pattern valid h)
 
--- nothing is found exactly if what is looked for is not so
+-- nothing is found exactly if the test fails
 none_if : (holds : Bool) (finding : Finding) → holds ≡ true → if_so (not holds) finding ≡ None
 none_if holds finding h = ap (λ t. if_so (not t) finding) h
 

@@ -1,18 +1,16 @@
--- Rows of which nothing is asked.
+-- Rows without a filter.
 use Rattle.std.proofs.Common.{◌≡◌, ◌∙◌, ◌-◌, ◌&&◌, ◌∷◌, ℕ, true, List, [], Option, Some, None, Bor, ap, arith, cond, drop, is_none, refl, take}
-use Rattle.std.specs.Option.{option_map_or}
 use Rattle.std.proofs.lemmas.List.{length-take, take_all}
 use Rattle.opc_state.specs.Loads.{asked_for, numbered}
 use Rattle.opc_state.specs.declared.account.AccountRow.{AccountRow}
-use Rattle.opc_account.specs.Filters.{is_among, is_wanted, is_within, meets, met, takes_all}
-use Rattle.opc_account.specs.declared.filter.Codes.{Codes}
+use Rattle.opc_account.specs.Filters.{is_code, is_wanted, is_within, meets, met, takes_all}
 use Rattle.opc_account.specs.declared.filter.Filter.{Filter}
 use Rattle.opc_answers_laws.specs.AccountLaws.{LoadedRowsAreShown}
 
-all_pass : (since until : Option ℕ) (user console : Option (Bor (List ℕ))) (codes : Option Codes) (row : AccountRow)
+all_pass : (since until : Option ℕ) (user console codes : Option (Bor (List ℕ))) (row : AccountRow)
     → (is_none since && is_none until && is_none user && is_none console && is_none codes) ≡ true
     → (is_within since until row.moment && is_wanted user row.user && is_wanted console row.console
-    && option_map_or (λ (c : Codes). is_among c row.code) codes true) ≡ true
+    && is_code codes row.code) ≡ true
 all_pass None None None None None row none = refl
 all_pass (Some first) until user console codes row none = absurd (cc)
 all_pass None (Some last) user console codes row none = absurd (cc)

@@ -1,4 +1,4 @@
--- What a query shows of an account, in the words of whoever reads it.
+-- What a query shows of an account, for those who read it.
 use Rattle.std.specs.Prelude.{◌≡◌, ◌≤◌, ◌<◌, ◌-◌, ℕ, true, List, Some, length, slice_get, take}
 use Rattle.std.specs.List.{All, AllPairs, Contains}
 use Rattle.opc_state.specs.Loads.{asked_for}
@@ -29,7 +29,7 @@ abbrev pub RowsAreShownInOrder : Type 0
 RowsAreShownInOrder =
     (q : Query) (account : List AccountRow) → AllPairs (λ (one other : ℕ × AccountRow). one.0 < other.0) (shown q account)
 
--- if nothing is asked for, and no more rows are loaded than are left to be shown
+-- without a filter, if no more rows are loaded than are left to be shown
 abbrev pub LoadedRowsAreShown : Type 0
 LoadedRowsAreShown =
     (q : Query) (account : List AccountRow) (next most left : ℕ) → takes_all q.filter ≡ true → most ≤ left

@@ -1,4 +1,4 @@
--- What a check of a policy file has to do with loading it.
+-- How a check of a policy file agrees with loading it.
 use Rattle.std.specs.Prelude.{◌≡◌, ℕ, List, Ok}
 use Rattle.opc_policy_members.specs.declared.policy.Policy.{Policy}
 use Rattle.opc_policy_members.specs.declared.row.Row.{Row}
@@ -27,7 +27,7 @@ FoundIsTaken = (form : Form) (text : List ℕ) (rows : List Row) (policy : Polic
     → finding_of form text ≡ taken rows policy
     → (policy_of text ≡ Ok rows) × ((s : State) × (bootstrapped rows empty ≡ Ok s) × (s.policy ≡ policy))
 
--- And it finds them in each policy file whose rows can be loaded.
+-- And a check finds them in each policy file whose rows can be loaded.
 abbrev pub TakenIsFound : Type 0
 TakenIsFound = (form : Form) (text : List ℕ) (rows : List Row) (s : State) → policy_of text ≡ Ok rows
     → bootstrapped rows empty ≡ Ok s → finding_of form text ≡ taken rows s.policy

@@ -4,3 +4,4 @@ pub mod Stored
 pub mod ReachLaws
 pub mod AccountLaws
 pub mod DigestLaws
+pub mod EnteringLaws

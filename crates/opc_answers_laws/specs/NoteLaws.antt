@@ -1,5 +1,5 @@
 -- What notes mean to those who write a policy: they are about what is stored, and N17 is about what decides nothing.
-use Rattle.std.specs.Prelude.{◌≡◌, ◌↔◌, ℕ, Bool, true, List, Option, None, Ok}
+use Rattle.std.specs.Prelude.{◌≡◌, ◌↔◌, ℕ, Bool, true, List, None, Ok}
 use Rattle.std.specs.List.{AllByRecursion}
 use Rattle.opc_names.specs.declared.class.Class.TheVariants.{Opercmds}
 use Rattle.opc_names.specs.declared.level.Level.{Level}

@@ -1,4 +1,4 @@
--- What the machine asks about in class OPERCMDS, and that only profiles decide it whose patterns are met.
+-- The resources about which the machine asks in class OPERCMDS; only profiles whose patterns are met decide on them.
 use Rattle.std.specs.Prelude.{◌≡◌, ℕ, List, Ok, Some, None, ⊤}
 use Rattle.opc_names.specs.declared.class.Class.TheVariants.{Opercmds}
 use Rattle.opc_names.specs.Names.{name_fault, unit_rule, console_rule}
@@ -18,7 +18,7 @@ use Rattle.opc_check_reach.specs.Reach.{IsKind, IsAsked, IsMet}
 abbrev pub HasKinds : BoardRows → Type 0
 HasKinds b = (name : List ℕ) → IsKind (kind_at b name)
 
--- What a command needs that a line is read as, on any board, counts.
+-- What the command that a line is needs, on any board, counts.
 abbrev pub CommandsAskSo : Type 0
 CommandsAskSo = (b : BoardRows) (line : List ℕ) (c : Command) (n : Need) → HasKinds b → command_in line ≡ Ok c
     → need_of b c ≡ Some n → IsAsked n.resource

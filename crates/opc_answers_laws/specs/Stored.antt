@@ -48,6 +48,6 @@ stored_for p b (rows.Profile class pattern uacc owner warning) =
 stored_for p b (rows.Permit class pattern id level when) =
     option_map (λ (l : Level). rows.Permit class pattern id l when) (level_of p class pattern id when)
 
--- what a row says is so in a state
+-- a state has what a row states
 abbrev pub IsStored : State → Row → Type 0
 IsStored s row = stored_for s.policy s.board row ≡ Some row

@@ -15,14 +15,22 @@ ghost use Rattle.opc_answers_laws.specs.AccountLaws.{
   StoredRowsAreShown,
 };
 ghost use Rattle.opc_answers_laws.specs.DigestLaws.{DigestsLogOn};
+ghost use Rattle.opc_answers_laws.specs.EnteringLaws.{
+  EntersAfterALogon,
+  EntersWithoutADigest,
+  SaysNoLogonIfRefused,
+  SaysNoLogonWithoutADigest,
+  SaysWhichOwnUserIsShownTheLine,
+  SaysWhoIsShownTheLine,
+};
 
 /// Rows are taken as a first policy if and only if none of them is refused, and otherwise refused for the first fault.
-/// So E41 never comes of it: with no console before it, a first policy takes no last master away.
+/// So E41 never occurs: with no console before it, a first policy loses no last master.
 pub fn taken_if_none_is_refused()
     ensures { TakenIfNoneIsRefused }
 {}
 
-/// What a check finds to be rows with their policy can be loaded, and makes that policy.
+/// If a check finds rows and their policy, the rows can be loaded, and make that policy.
 pub fn found_is_taken()
     ensures { FoundIsTaken }
 {}
@@ -44,8 +52,7 @@ pub fn profiles_that_are_not_met()
     ensures { NotedUnlessMet }
 {}
 
-/// Every question that ruling on a command asks, and every one that showing a line asks, is one that `opc_check_reach`
-/// counts.
+/// Every resource about which a ruling on a command or the showing of a line asks is one that `opc_check_reach` counts.
 pub fn questions_count()
     ensures commands { CommandsAskSo }
     ensures lines { LinesAskSo }
@@ -58,8 +65,8 @@ pub fn deciders_are_met()
     ensures lines { DecidersOfLinesAreMet }
 {}
 
-/// Each row that is shown is stored under its number and is asked for; each stored row that is asked for is shown, unless
-/// enough are; and they are shown in the order of their numbers, so none twice.
+/// Each row that is shown is stored under its number and was requested; each stored row that was requested is shown,
+/// unless enough are; and they are shown in the order of their numbers, so none twice.
 pub fn shown_rows()
     ensures stored { ShownRowsAreStored }
     ensures shown { StoredRowsAreShown }
@@ -71,8 +78,22 @@ pub fn loaded_rows()
     ensures { LoadedRowsAreShown }
 {}
 
-/// The digits that are printed of a password, in the row of a user, are read as the digest by which LOGON takes the same
-/// password.
+/// The digits that are printed for a password, in the row of a user, are read as the digest by which LOGON accepts the
+/// same password.
 pub fn digests_log_on()
     ensures { DigestsLogOn }
+{}
+
+/// What `who` says of a user and a command at a console is what the machine does, begun from the same rows: ALLOWED,
+/// WARNED or HIDDEN exactly if the command is allowed after a LOGON of the user there, or without one where the console
+/// acts for the user; NOLOGON exactly if the command would be allowed with the user on there, but the LOGON is refused
+/// and the console does not act for the user; and of D A,name ALLOWED or WARNED exactly if the answer then is the line of
+/// the unit, once the unit is on the board.
+pub fn says_who_enters()
+    ensures after { EntersAfterALogon }
+    ensures without { EntersWithoutADigest }
+    ensures refused { SaysNoLogonIfRefused }
+    ensures off { SaysNoLogonWithoutADigest }
+    ensures line { SaysWhoIsShownTheLine }
+    ensures own_line { SaysWhichOwnUserIsShownTheLine }
 {}

@@ -1,4 +1,4 @@
-//! What answers for people have to do with what is stored and what the machine asks, as laws on definitions.
+//! How answers for people agree with what is stored and with the machine, as laws on definitions.
 #![tactic(auto)]
 
 pub mod laws;

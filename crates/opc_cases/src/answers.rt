@@ -6,11 +6,14 @@ use crate::policy_file::{HEADER, reported};
 use crate::table::alone;
 use crate::words::{class_in, first_word, level_in};
 use anyhow::{Result, bail};
-use opc_answers::answer::{Answer, answer_of};
-use opc_answers::counts::{Counts, Share, count_no_logon, count_undecided, counts_text};
+use opc_answers::answer::{PolicyAnswer, answer_of};
+use opc_answers::beginning::beginning_text;
+use opc_answers::counts::{
+    ConsoleCounts, Counts, Share, count_hidden, count_no_logon, count_undecided, counts_text,
+};
 use opc_answers::lines::UserLine;
 use opc_answers::question::{About, Asks, Question};
-use opc_answers::text::{beginning_text, console_lines_text, users_text};
+use opc_answers::text::{console_lines_text, users_text};
 use opc_answers::who::Who;
 use opc_import::read::read_policy;
 use opc_names::name::{ConsoleName, Resource, UserId};
@@ -61,7 +64,7 @@ fn printed(alloc: Global, answer: Result<String, Fault>) -> Result<String> {
     }
 }
 
-/// What is said of users at one console alone, console by console.
+/// What is reported of users at one console alone, console by console.
 fn raised_of(alloc: Global, who: &Who) -> Result<Rows<UserLine>, AllocError> {
     let mut lines = Rows::new(alloc);
     for console in who.named(alloc)?.iter() {
@@ -79,16 +82,13 @@ fn who_text(alloc: Global, who: &Who, allowed: bool) -> Result<String, AllocErro
     let (users, raised) = (who.users(alloc)?, raised_of(alloc, who)?);
     let (users, raised) = (users.as_slice(), raised.as_slice());
     let lines = who.consoles(alloc)?;
-    let consoles = match &lines {
-        Some(lines) => Some(Share::of_consoles(lines.as_slice())),
-        None => None,
-    };
     let counts = Counts {
         users: Share::of_users(users),
         undecided: count_undecided(users),
         no_logon: count_no_logon(users),
+        hidden: count_hidden(users),
         raised: Share::of_users(raised),
-        consoles,
+        consoles: ConsoleCounts::of(&who.wanted, &lines),
     };
     let mut text = beginning_text(alloc, who)?;
     text.push_str(users_text(alloc, users, allowed)?.as_str())?;
@@ -102,9 +102,9 @@ fn who_text(alloc: Global, who: &Who, allowed: bool) -> Result<String, AllocErro
 fn answered(alloc: Global, file: &str, question: &Question<'_>) -> Result<String, Fault> {
     let rows = read_policy(alloc, file)?;
     match answer_of(alloc, rows.as_slice(), question)? {
-        Answer::Nothing => Ok(String::from_str(alloc, "NEEDS NOTHING\n")?),
-        Answer::Why(why) => Ok(why.text(alloc)?),
-        Answer::Who(who, allowed) => Ok(who_text(alloc, &who, allowed)?),
+        PolicyAnswer::Nothing => Ok(String::from_str(alloc, "NEEDS NOTHING\n")?),
+        PolicyAnswer::Why(why) => Ok(why.text(alloc)?),
+        PolicyAnswer::Who(who, allowed) => Ok(who_text(alloc, &who, allowed)?),
     }
 }
 
@@ -127,7 +127,7 @@ fn access_in(words: &str) -> Result<About<'_>> {
     })
 }
 
-/// Who may: those alone, or everybody.
+/// Who may: only these users, or everybody.
 fn who(about: About<'_>, console: Option<ConsoleName>, allowed: bool) -> Question<'_> {
     Question {
         about,

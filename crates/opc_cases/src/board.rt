@@ -1,4 +1,4 @@
-//! Cases of boards of rows that no run of commands and events makes. Each case is printed, and below what comes of it.
+//! Cases of boards of rows that no run of commands and events makes. Each case is printed, and below it the outcome.
 ghost use Rattle.std.specs.Prelude.{IsSome, IsTrue};
 ghost use Rattle.opc_board.specs.Invariants.{console_at};
 
@@ -18,7 +18,7 @@ use opc_terms::mode::Mode;
 use opc_terms::unit_kind::UnitKindAt;
 use std::alloc::{AllocError, Global};
 
-// How many rows of each kind came back, if they are not a valid board.
+// How many rows of each kind came back, if they are no valid board.
 fn rows_text(alloc: Global, back: &BoardRows) -> Result<String, AllocError> {
     let units = back.units.as_slice().len();
     let devices = back.devices.as_slice().len();
@@ -41,7 +41,7 @@ fn lines_text(alloc: Global, lines: &[Line]) -> Result<String, AllocError> {
 fn answer_text(alloc: Global, answer: Result<Vec<Line>, BoardFault>) -> Result<String, AllocError> {
     match answer {
         Ok(lines) => lines_text(alloc, lines.as_slice()),
-        // Refused memory ends the program: it is no answer that a case asks for.
+        // A failed allocation ends the program: no case expects it as an answer.
         Err(BoardFault::NoMemory) => Err(AllocError),
         Err(fault) => format!(in alloc; "  {fault:?}\n"),
     }
@@ -73,7 +73,7 @@ fn define(board: &mut Board, text: &str) -> Result<()> {
     Ok(())
 }
 
-// Whether these rows are a board: then it takes the place of the other.
+// Whether these rows are a board, which then replaces the other.
 fn make(alloc: Global, board: &mut Board, text: &str) -> Result<String> {
     match Board::of(gathered(alloc, text)?) {
         Ok(made) => {

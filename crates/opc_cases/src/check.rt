@@ -9,7 +9,7 @@ use opc_names::name::ConsoleName;
 use std::alloc::Global;
 
 fn found(alloc: Global, form: Form, text: &str) -> Result<String> {
-    // Named for the prover, which else does not find the type of a row's console.
+    // Named for the prover, which otherwise cannot infer the type of a row's console.
     let _nowhere: Option<ConsoleName> = None;
     match check(alloc, text, form)? {
         Checked::Bad(lines) => Ok(lines),

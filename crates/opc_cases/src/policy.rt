@@ -1,5 +1,5 @@
-//! Cases of policies. Each case is a subject and its words, a question on the policy that the rows before it made; what
-//! is printed is the answer.
+//! Cases of policies. Each case is a subject and its words, a question about the policy that the rows before it made;
+//! what is printed is the answer.
 mod faults;
 mod levels;
 mod plain;

@@ -11,7 +11,7 @@ pub fn spelled(alloc: Global, fault: &Fault) -> Result<String, AllocError> {
     format!(in alloc; "{} {fault}", fault.code())
 }
 
-/// A fault as an answer. Out of memory is none, and ends the program.
+/// A fault as an answer. A failed allocation is none, and ends the program.
 pub fn reported(alloc: Global, fault: &Fault) -> Result<String> {
     match fault {
         Fault::NoMemory => bail!("out of memory"),

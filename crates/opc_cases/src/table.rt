@@ -5,7 +5,7 @@ use opc_board::board::Board;
 use opc_policy_members::policy::Policy;
 use std::alloc::Global;
 
-/// A table, with what the lines before have made.
+/// A table, with what the lines before it have made.
 #[derive(Drop)]
 pub enum Table {
     Names,

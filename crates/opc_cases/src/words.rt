@@ -1,4 +1,4 @@
-//! The words of a case. One that is not what is asked for ends the program.
+//! The words of a case. An unexpected word ends the program.
 use anyhow::{Context, Result};
 use opc_names::class::Class;
 use opc_names::level::Level;

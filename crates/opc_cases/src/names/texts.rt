@@ -5,7 +5,7 @@ use opc_names::rule::NameFault;
 use std::alloc::Global;
 use std::fmt::Display;
 
-/// The longest resource that a further name may follow.
+/// The longest resource to which a name may be added.
 const LONGEST_PREFIX: usize = 30;
 
 /// The name that was read, or the fault.

@@ -1,4 +1,4 @@
-//! Faults by their codes: those that no script or policy of the repository's examples ends in.
+//! Faults by their codes: those in which no script or policy of the examples ends.
 use anyhow::{Result, bail};
 use opc_names::name::UserId;
 use opc_terms::fault::{Fault, Subject};

@@ -89,7 +89,7 @@ module _ {T : Type 0} (m : Meaning T) where
     acknowledged = λ answered. inl acknowledged;
   }
 
-  -- a request is handled since what a crash may leave was not more
+  -- a request is handled if a crash could leave no more before
   pub handled_since : (old mid new : T) (s : State) (moment : ℕ) (r : Input) (answer : Answer) → ((left : State) → m.may_leave mid left → m.may_leave old left)
       → IsHandled m mid new s moment r answer → IsHandled m old new s moment r answer
   handled_since old mid new s moment r answer before h = record {

@@ -1,4 +1,4 @@
--- A run whose answers are heard goes on by one request.
+-- A run whose answers are received goes on by one request.
 use Rattle.std.proofs.Common.{◌≡◌, ℕ, ◌+◌, ◌<◌, List, [], ◌∷◌, ◌++◌, length, take, drop, get_or, refl, subst, sym, ap, ◌∙◌}
 use Rattle.std.proofs.lemmas.List.{append_assoc, take-append-drop, take_more}
 use Rattle.opc_state.specs.Meaning.{Meaning}
@@ -26,7 +26,7 @@ module _ {T L : Type 0} (m : Meaning T) (heard : L → ℕ → Answer → L → 
         heard_all = refl;
       }
 
-  -- one more answer, heard
+  -- one more answer, received
   pub goes_on : (rs : List (ℕ × Request)) (i : ℕ) (r : ℕ × Request) (old mid new : T) (from met to : L) (answer : Answer) → i < length rs → r ≡ get_or rs i r
       → IsHeardRun m heard old mid (take i rs) from met
       → IsNext m mid new r answer → heard met r.0 answer to
@@ -40,7 +40,7 @@ module _ {T L : Type 0} (m : Meaning T) (heard : L → ℕ → Answer → L → 
             (heard_more heard (take i rs) far.answers from met to r answer far.heard_all one);
       }
 
-  -- one more answer, not heard
+  -- one more answer, not received
   pub ends : {F : Type 0} (missed : L → ℕ → Answer → L → F → Type 0) (rs : List (ℕ × Request)) (i : ℕ) (r : ℕ × Request)
       (old mid new : T) (from met to : L) (answer : Answer) (fault : F) → i < length rs → r ≡ get_or rs i r
       → IsHeardRun m heard old mid (take i rs) from met

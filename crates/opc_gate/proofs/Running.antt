@@ -97,7 +97,7 @@ module _ {T : Type 0} (m : Meaning T) where
   abbrev pub IsSureRun : T → T → List (ℕ × Request) → List Answer → Type 0
   IsSureRun old new requests answers = m.is_sure new → (s : State) → m.represents old s → IsRun m old new s requests answers
 
-  -- what one more request comes to, and what the tables are sure of
+  -- the outcome of one more request, and what the tables are sure of
   abbrev pub IsNext : T → T → ℕ × Request → Answer → Type 0
   IsNext mid new r answer = (m.is_sure new → m.is_sure mid)
       × (m.is_sure new → (s : State) → m.represents mid s

@@ -12,7 +12,7 @@ use Rattle.opc_machine.specs.declared.request.Answer.{Answer}
 use Rattle.opc_machine.specs.Inputs.{Input, input_of, inputs_of}
 use Rattle.opc_machine.specs.Machine.{outcome, after, answer_of, is_warned, Step, Runs, IsAborted}
 
--- whether the account gets a row for what a request comes to: for a refusal, and for what a warning alone let pass
+-- whether the account gets a row for the outcome of a request: for a refusal, and for what a warning alone let pass
 abbrev pub is_accounted : Outcome → Bool
 is_accounted (Done effect) = is_warned effect.rule
 is_accounted (Refused refusal) = true

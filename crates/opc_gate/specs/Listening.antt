@@ -1,4 +1,4 @@
--- A run of requests whose answers are heard one after another.
+-- A run of requests whose answers are received one after another.
 use Rattle.std.specs.Prelude.{◌≡◌, ℕ, List, [], ◌∷◌, ◌++◌}
 use Rattle.opc_state.specs.Meaning.{Meaning}
 use Rattle.opc_state.specs.State.{State}
@@ -6,7 +6,7 @@ use Rattle.opc_machine.specs.declared.request.Request.{Request}
 use Rattle.opc_machine.specs.declared.request.Answer.{Answer}
 use Rattle.opc_gate.specs.Handling.{IsRun}
 
--- Each answer was heard with the moment of its request, and the listener became another each time.
+-- Each answer was received with the timestamp of its request, and the listener became another each time.
 abbrev pub AreHeard : {L : Type 0} → (L → ℕ → Answer → L → Type 0) → List (ℕ × Request) → List Answer → L → L → Type 0
 AreHeard heard [] [] from to = to ≡ from
 AreHeard heard (r ∷ requests) (answer ∷ answers) from to =
@@ -16,14 +16,14 @@ AreHeard heard (r ∷ requests) [] from to = ⊥
 
 module _ {T L : Type 0} (m : Meaning T)
     (heard : L → ℕ → Answer → L → Type 0) where
-  -- All requests are handled, and their answers are heard. If the tables are sure, these are the answers of a run of
+  -- All requests are handled, and their answers are received. If the tables are sure, these are the answers of a run of
   -- the machine.
   pub record IsHeardRun (old new : T) (requests : List (ℕ × Request)) (from to : L) : Type 0 where
     pub answers : List Answer
     pub run : m.is_sure new → (s : State) → m.represents old s → IsRun m old new s requests answers
     pub heard_all : AreHeard heard requests answers from to
 
-  -- The run ended at the first request whose answer was not heard. That request is the last one that is handled.
+  -- The run ended at the first request whose answer was not received. That request is the last one that is handled.
   pub record IsEndedRun {F : Type 0} (missed : L → ℕ → Answer → L → F → Type 0) (old new : T)
       (requests : List (ℕ × Request)) (from to : L) (fault : F) : Type 0 where
     pub before : List (ℕ × Request)

@@ -21,6 +21,7 @@ ghost use Rattle.opc_gate.specs.Handling.{IsDecision, IsHandled, IsNothingWhereS
 ghost use Rattle.opc_machine.specs.Effects.{IsOutcome};
 
 use crate::console::{acting_user_at, console_of, console_on};
+use opc_account_length::length::account_length_from;
 use opc_board::rows::ConsoleRow;
 use opc_board::text::KeptText;
 use opc_gate_admin::administration::admin_on;
@@ -44,7 +45,7 @@ use opc_terms::store_fault::StoreFault;
 use std::alloc::{AllocError, Global};
 use std::marker::Model;
 
-/// An answer, and what has to be written before it is given.
+/// An answer, and what must be written before it is given.
 #[derive(Drop)]
 struct Decision {
     answer: Answer,
@@ -70,9 +71,8 @@ fn is_accounted(outcome: &Outcome) -> bool
     }
 }
 
-// For whom the console of a request acts, if the account gets a row for what the request comes to. The row has only the
-// name: a user is loaded for it only if an AUTO console with nobody logged on has to know whether its own user is
-// stored.
+// For whom the console of a request acts, if the account gets a row for the outcome of the request. The row has only
+// the name: a user is loaded for it only at an unattended AUTO console, to see whether its own user is stored.
 fn user_accounted_on<T: Tables>(
     tables: &mut T,
     alloc: Global,
@@ -124,7 +124,7 @@ fn account_row(
     })
 }
 
-// The answer and the change, by what a request comes to.
+// The answer and the change, by the outcome of a request.
 fn decide(
     alloc: Global,
     moment: u64,
@@ -186,7 +186,7 @@ fn aborted(fault: StoreFault) -> Answer
     }
 }
 
-// What a request comes to, given the row of its console; writes nothing.
+// The outcome of a request, given the row of its console; writes nothing.
 fn outcome_on<T: Tables>(
     tables: &mut T,
     alloc: Global,
@@ -261,6 +261,8 @@ fn handle<T: Tables>(tables: &mut T, alloc: Global, moment: u64, request: &Reque
 #[derive(Drop)]
 pub struct Gate<T: Tables> {
     tables: T,
+    /// How many rows the account had when it was last counted, or 0.
+    rows: u64,
 }
 
 impl<T: Tables> Model for Gate<T> {
@@ -270,8 +272,8 @@ impl<T: Tables> Model for Gate<T> {
 }
 
 impl<T: Tables> Gate<Cached<T>> {
-    /// A gate over these tables, with a cache of which profile decides, and of the flags of the state. If memory is
-    /// refused for it (E90), the tables are returned. With its cache, which is empty, the gate represents each state
+    /// A gate over these tables, with a cache of which profile decides, and of the flags of the state. If its
+    /// allocation fails (E90), the tables are returned. With its cache, which is empty, the gate represents each state
     /// that the tables represent.
     pub fn new(alloc: Global, store: T) -> Result<Self, (Fault, T)>
         ensures made { IfOk result (λ gate.
@@ -281,7 +283,7 @@ impl<T: Tables> Gate<Cached<T>> {
         ensures refused { IfErr result (λ back. (back.0 ≡ why.NoMemory) × (back.1 ≡ store)) }
     {
         match Cached::new(alloc, store) {
-            Ok(tables) => Ok(Gate { tables }),
+            Ok(tables) => Ok(Gate { tables, rows: 0 }),
             Err(back) => Err(back),
         }
     }
@@ -306,11 +308,12 @@ impl<T: Tables> Gate<Cached<T>> {
 }
 
 impl<T: Tables> Gate<T> {
-    /// A gate over these tables alone.
+    /// A gate over these tables without a cache, which a program that handles one request and ends would not profit
+    /// from.
     pub fn over(tables: T) -> Self
         ensures { result ≡ tables }
     {
-        Gate { tables }
+        Gate { tables, rows: 0 }
     }
 
     /// The tables, as they are.
@@ -360,6 +363,16 @@ impl<T: Tables> Gate<T> {
         ensures { Loads T.meaning self.old self.new result (λ s user. user ≡ user_acting s (input_of request.now)) }
     {
         acting_user_at(&mut self.tables, alloc, request)
+    }
+
+    /// How many rows the account has: the number of the last one. It is one query if at most one row was added since the
+    /// last call.
+    pub fn account_length(&mut self, alloc: Global) -> Result<u64, StoreFault>
+        ensures { Loads T.meaning self.old self.new result (λ s count. count ≡ length s.account) }
+    {
+        let rows = account_length_from(&mut self.tables, alloc, self.rows)?;
+        self.rows = rows;
+        Ok(rows)
     }
 
     /// Answers a request. The answer and the state that the tables represent afterwards are a step of the access

@@ -1,4 +1,4 @@
-//! The gate: requests of all six kinds, each answered and accounted for by the written policy of its moment.
+//! The gate: requests of all six kinds, each answered and accounted for by the policy as it stands at that time.
 #![tactic(auto)]
 
 mod console;

@@ -1,18 +1,18 @@
-//! Who hears the answers of a run.
+//! Who receives the answers of a run.
 ghost use Rattle.std.specs.Prelude.{ℕ, IfErr, OnOk};
 ghost use Rattle.opc_machine.specs.declared.request.Answer.{Answer as TheAnswer};
 
 use opc_machine::request::Answer;
 
-/// Hears each answer of a run before the next request is handled, and may end the run.
+/// Receives each answer of a run before the next request is handled, and may end the run.
 pub trait Listener {
-    /// Why an answer was not heard.
+    /// Why an answer was not received.
     type Fault: Drop;
 
-    /// Heard an answer with its moment, and became this.
+    /// Received an answer with its timestamp, and became this.
     ghost heard: { Self → ℕ → TheAnswer → Self → Type 0 };
 
-    /// Heard an answer with its moment in part or not at all, and became this.
+    /// Received an answer with its timestamp in part or not at all, and became this.
     ghost missed: { Self → ℕ → TheAnswer → Self → Self.Fault → Type 0 };
 
     fn hear(&mut self, moment: u64, answer: &Answer) -> Result<(), Self::Fault>

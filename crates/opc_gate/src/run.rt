@@ -11,10 +11,10 @@ use opc_state::tables::Tables;
 use std::alloc::{AllocError, Global};
 
 impl<T: Tables> Gate<T> {
-    /// Answers requests, with their moments, one after another. The answers, and the state that the tables represent
-    /// afterwards, are those of the access machine. The room for all answers is taken first: if memory is refused for
-    /// it, no request is handled. A crash leaves what it might have left before the requests or a state that one of
-    /// them makes, as a whole; once all are answered, only the last state, if anything was changed.
+    /// Answers requests, with their timestamps, one after another. The answers, and the state that the tables represent
+    /// afterwards, are those of the access machine. The room for all answers is taken first: if its allocation fails,
+    /// no request is handled. A crash leaves what it might have left before the requests or a state that one of them
+    /// makes, as a whole; once all are answered, only the last state, if anything was changed.
     pub fn run(
         &mut self,
         alloc: Global,
@@ -33,9 +33,9 @@ impl<T: Tables> Gate<T> {
         Ok(answers)
     }
 
-    /// Runs requests and lets a listener hear each answer before the next request is handled; no answer is stored. The
-    /// answers, the state and what a crash leaves are those of `run`. If an answer is not heard, the run ends with that
-    /// request, which is handled.
+    /// Runs requests and passes each answer to a listener before the next request is handled; no answer is stored. The
+    /// answers, the state and what a crash leaves are those of `run`. If an answer is not received, the run ends with
+    /// that request, which is handled.
     pub fn run_heard<L: Listener>(
         &mut self,
         alloc: Global,

@@ -80,7 +80,7 @@ not_false : (b : Bool) → not b ≡ false → b ≡ true
 not_false true h = refl
 not_false false h = absurd (search (rules, h))
 
--- of two consoles, one goes by another name
+-- of two consoles, one has another name
 two_report : (name : Name) (xs : List ConsoleRow) → Ascends console_before xs
     → list_any (λ c. not (is c.name name)) (take 2 xs) ≡ list_any (λ c. not (is c.name name)) xs
 two_report name [] order = refl
@@ -146,7 +146,7 @@ put_replaces row console (x ∷ xs) order found = go (is x.name row.name) refl f
         ∙ back (console_cmp x console) before in
         ap (λ o. match_ordering o (row ∷ x ∷ xs) (row ∷ xs) (x ∷ replace_key console_cmp xs row)) greater ∙ ap (λ ys. x ∷ ys) (later f)
 
--- and one of a new name comes to its place
+-- and one of a new name is inserted at its place
 put_adds : (row : ConsoleRow) (xs : List ConsoleRow) → find (λ c. is c.name row.name) xs ≡ None → replace_key console_cmp xs row ≡ put console_before row xs
 put_adds row [] none = refl
 put_adds row (x ∷ xs) none = go (is x.name row.name) refl none (put_adds row xs)

@@ -1,4 +1,4 @@
--- What an operation comes to, by what it makes of a policy or of a state.
+-- The outcome of an operation, by what it makes of a policy or of a state.
 use Rattle.std.specs.Prelude.{◌≡◌, ◌&&◌, ℕ, Bool, true, false, List, [], ◌∷◌, Option, Some, None, Result, Ok, Err}
 use Rattle.std.specs.Option.{option_map}
 use Rattle.std.specs.Str.{bytes_eq}
@@ -41,7 +41,7 @@ state_outcome made = do
   new ← or_refused made
   does new [] None
 
--- If the tables are sure, and represent a state with each key once, this is what the operation comes to.
+-- If the tables are sure, and represent a state with each key once, this is the outcome of the operation.
 abbrev pub ComesTo : {T : Type 0} → Meaning T → T → T → Result Outcome StoreFault → Operation → Type 0
 ComesTo m old new result op = Loads m old new result
     (λ s o. IsKeyed s → IsOutcome s (state_outcome (changed s op)) o)
@@ -51,7 +51,7 @@ abbrev pub owns_profile : Policy → Option User → Option (Class × List ℕ) 
 owns_profile p user None = false
 owns_profile p user (Some named) = is_owner user (profile_of p.profiles named.0 named.1)
 
--- the fault of whoever lacks the right to an operation, by the profile whose owner has it
+-- the fault of those who lack the right to an operation, by the profile whose owner has it
 abbrev pub fault_without : Option (Class × List ℕ) → Fault
 fault_without None = NotSpecial
 fault_without (Some named) = NotOwner

@@ -1,4 +1,4 @@
-//! Who has the right to an operation, and what it comes to.
+//! Who has the right to an operation, and its outcome.
 ghost use Rattle.std.specs.Prelude.{◌≡◌, true, Option};
 ghost use Rattle.opc_board.specs.Invariants.{Name, console_at};
 ghost use Rattle.opc_policy_members.specs.Profiles.{profile_of};
@@ -57,7 +57,7 @@ fn right_fault(op: &Operation) -> Fault
     }
 }
 
-// Whether whoever acts owns the profile of a class and a pattern. Nobody owns one that is not there.
+// Whether the acting user owns the profile of a class and a pattern. Nobody owns one that is not there.
 fn owns<T: Tables>(
     tables: &mut T,
     alloc: Global,
@@ -74,7 +74,7 @@ fn owns<T: Tables>(
     }
 }
 
-// Whether whoever asks has the right to an operation.
+// Whether the acting user has the right to an operation.
 fn may_change<T: Tables>(
     tables: &mut T,
     alloc: Global,
@@ -142,7 +142,7 @@ fn definition(
     }
 }
 
-// What an operation on a profile or its access list comes to, if whoever asks has the right to it.
+// The outcome of an operation on a profile or its access list, if the acting user has the right to it.
 fn profile_changed_on<T: Tables>(
     tables: &mut T,
     alloc: Global,
@@ -191,9 +191,9 @@ fn profile_changed_on<T: Tables>(
     }
 }
 
-// What an operation comes to, if whoever asks has the right to it. Each operation is one function: tests in the order
-// of its definition, and at the end one edit, or none if nothing changes. For most of them, the lemma `one_edit` states
-// what the policy becomes.
+// The outcome of an operation, if the acting user has the right to it. Each operation is one function: tests in the
+// order of its definition, and at the end one edit, or none if nothing changes. For most of them, the lemma `one_edit`
+// states what the policy becomes.
 fn changed_on<T: Tables>(
     tables: &mut T,
     alloc: Global,
@@ -239,7 +239,7 @@ fn changed_on<T: Tables>(
     }
 }
 
-/// What an operation of administration comes to at a console, whose row is loaded: who may ask (E10 to E13), the right
+/// The outcome of an operation of administration at a console, whose row is loaded: who may act (E10 to E13), the right
 /// (E50, E51), and what the operation itself refuses. It loads, by key, what the operation names: no access list, no
 /// policy, no board. A profile's definition is looked up at most three times, in an RAlter by an owner: for the right,
 /// for the operation, and by the cache. Each is one look-up by key; to pass the first on, an edit would have to state

@@ -61,7 +61,7 @@ fn has_other_master<T: Tables>(
     Ok(any_other(masters.as_slice(), name))
 }
 
-// Whether the last master is lost if a console becomes another.
+// Whether the last master is lost if the row of a console becomes another.
 fn loses_master<T: Tables>(
     tables: &mut T,
     alloc: Global,

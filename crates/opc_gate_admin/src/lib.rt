@@ -1,4 +1,4 @@
-//! What the operations of administration come to, by what is loaded for them; nothing is written.
+//! The outcomes of the operations of administration, by what is loaded for them; nothing is written.
 #![tactic(auto)]
 
 pub mod administration;

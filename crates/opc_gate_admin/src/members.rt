@@ -26,7 +26,7 @@ fn has_name<T: Tables>(tables: &mut T, name: &str) -> Result<bool, StoreFault>
     Ok(tables.has_user(name)? || tables.has_group(name)?)
 }
 
-// Whether a user is in use: named by a connect, an owner or an access list, or logged on at a console.
+// Whether a user is in use: named by a connect, as an owner, or by an access list, or logged on at a console.
 fn is_in_use<T: Tables>(tables: &mut T, alloc: Global, id: &UserId) -> Result<bool, StoreFault>
     ensures { Loads T.meaning tables.old tables.new result (λ s used. used ≡ is_in_use s.policy s.board id.now) }
 {

@@ -35,7 +35,7 @@ refused_outcome s c command rule fault why refuses is =
     ap (λ o. acted (Some rule) o >>= λ act. does (record s { board = act.board }) (filter (shown s c) act.lines) (Some rule)) refuses
     ∙ ap (λ f. Err (record { fault = f; rule = Some rule })) (sym is)
 
--- what a command comes to is what it comes to by the rule that allows it
+-- the outcome of a command is its outcome by the rule that allows it
 pub by_the_rule : (s : State) (c : ConsoleRow) (command : Command) (need : Need) (rule : Rule)
     → ruling s c need ≡ Allowed rule → board_command s c command need ≡ allowed_command s c command rule
 by_the_rule s c command need rule allows =

@@ -1,4 +1,4 @@
--- What a line reads as.
+-- What a line is read as.
 use Rattle.std.proofs.Common.{◌≡◌, ◌↔◌, ℕ, List, Result, Ok, Err, ap, refl, sym}
 use Rattle.opc_reader_commands.specs.declared.command.Command.{Command}
 use Rattle.opc_reader.specs.declared.line.ReadFault.{ReadFault}

@@ -27,7 +27,7 @@ abbrev pub AreNoneWhereSame : List ℕ → BoardRows → List Edit → Type 0
 AreNoneWhereSame console board edits = (s : State) → IsConsoleFootprint s console board → all_edited edits s ≡ s
     → edits ≡ []
 
--- What a command comes to, if a rule allows it: it acts on the board, and gives those of its lines that may be shown.
+-- The outcome of a command, if a rule allows it: it acts on the board, and gives those of its lines that may be shown.
 abbrev pub allowed_command : State → ConsoleRow → Command → Rule → StateOutcome
 allowed_command s c command rule = acted (Some rule) (effect s.board command c.name) >>=
     λ act. does (record s { board = act.board }) (filter (shown s c) act.lines) (Some rule)

@@ -1,4 +1,4 @@
-//! What commands and events come to: loads, and no change.
+//! The outcomes of commands and events: loads, and no change.
 ghost use Rattle.std.specs.Prelude.{◌≡◌, ◌≢◌, IfOk, None, Some, [], false};
 ghost use Rattle.opc_board.specs.declared.fault.BoardFault.TheVariants.{NoMemory};
 ghost use Rattle.opc_board.specs.Consoles.{logged_on};
@@ -116,7 +116,7 @@ fn unit_kind(unit: &Option<UnitRow>) -> UnitKindAt
     }
 }
 
-// The fault of what the board refuses; if memory was refused, the request is aborted.
+// The fault of what the board refuses; if an allocation failed, the request is aborted.
 fn board_fault(fault: BoardFault) -> Result<Fault, StoreFault>
     ensures { IfOk result (λ why. (fault ≢ NoMemory) × (why ≡ board_fault fault)) }
 {
@@ -126,7 +126,7 @@ fn board_fault(fault: BoardFault) -> Result<Fault, StoreFault>
     }
 }
 
-// What a command comes to, if a rule allows it and it does more than show. The unit that it names may be loaded
+// The outcome of a command, if a rule allows it and it does more than show. The unit that it names may be loaded
 // already.
 fn effect_on<T: Tables>(
     tables: &mut T,
@@ -303,8 +303,8 @@ fn typed<T: Tables>(
     }
 }
 
-/// What a command comes to that is typed at a console, whose row is loaded. It loads only what is needed by the tests
-/// that are reached: no footprint is loaded for a command that is denied.
+/// The outcome of a command that is typed at a console, whose row is loaded. It loads only what the tests that are
+/// reached need: no footprint is loaded for a command that is denied.
 pub fn command_on<T: Tables>(
     tables: &mut T,
     alloc: Global,
@@ -324,7 +324,7 @@ pub fn command_on<T: Tables>(
     }
 }
 
-/// What an event comes to.
+/// The outcome of an event.
 pub fn event_on<T: Tables>(
     tables: &mut T,
     alloc: Global,

@@ -29,7 +29,7 @@ pub(crate) fn is_display(command: &Command<'_>) -> bool
         | Command::DisplayDevices
         | Command::DisplayConsoles
         | Command::DisplayReplies => true,
-        // Every other command may change the board, also one that shows a line, as R does.
+        // Every other command may change the board, even one that shows a line, as R does.
         _ => false,
     }
 }
@@ -57,7 +57,7 @@ fn lines_on<T: Tables>(
     Ok(lines)
 }
 
-/// What a display comes to, if a rule allows it: those lines that may be shown, and no change.
+/// The outcome of a display, if a rule allows it: those lines that may be shown, and no change.
 pub(crate) fn display_on<T: Tables>(
     tables: &mut T,
     alloc: Global,

@@ -1,4 +1,4 @@
-//! What commands and events come to, by what is loaded for them; nothing is written.
+//! The outcomes of commands and events, by what is loaded for them; nothing is written.
 #![tactic(auto)]
 
 pub mod command;

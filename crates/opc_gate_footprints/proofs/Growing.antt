@@ -131,7 +131,7 @@ nothing_is s part is =
       nothing_seen s.board.replies,
     ) refl)
 
--- a console that joins is there
+-- a console that is added is there
 pub some_there : (console : ConsoleRow) (old new : List ConsoleRow)
     → new ≡ joined console_before (λ c. is c.name console.name) (Some console) old
     → IsSome (find (λ (c : ConsoleRow). is c.name console.name) new)

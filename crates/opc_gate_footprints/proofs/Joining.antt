@@ -1,4 +1,4 @@
--- A row that joins those that are loaded.
+-- A row that is added to those that are loaded.
 use Rattle.std.proofs.Common.{◌≡◌, Bool, true, false, cond, ◌||◌, List, [], ◌∷◌, filter, Option, Some, None, Ordering, refl, ap, ap₂, sym, ◌∙◌}
 use Rattle.std.specs.Cmp.{IsTotalOrder}
 use Rattle.std.specs.List.{AllByRecursion, IsAllAdjacentAnswer, find}
@@ -75,13 +75,13 @@ module _ {A : Type 0} (before : A → A → Bool) (is_at p : A → Bool) where
             ∙ ap (λ ws. x ∷ ws) (later at)
         go false false here there at later = later at
 
-    -- the row at a key, if there is one, joins those that are loaded
+    -- the row at a key, if there is one, is added to those that are loaded
     pub joins : (found : Option A) (xs : List A) → Ascends before xs → found ≡ find is_at xs
         → joined before is_at found (filter p xs) ≡ filter (λ x. p x || is_at x) xs
     joins None xs order at = none_more xs (find_none is_at xs (ap is_some (sym at)))
     joins (Some row) xs order at = one_more row xs order (sym at)
 
-  -- what joins is there
+  -- what is added is there
   found_before : (c : Bool) (y : A) (ys : List A) → is_some (find is_at ys) ≡ true → is_some (cond c (Some y) (find is_at ys)) ≡ true
   found_before true y ys more = refl
   found_before false y ys more = more

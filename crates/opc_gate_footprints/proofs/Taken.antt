@@ -80,7 +80,7 @@ module _ {A : Type 0} (m s p : A → Bool) where
   abbrev other : A → Bool
   other x = m x && not (p x)
 
-  -- if none is this one, the first that is there is another
+  -- if none is this one, the first, if there is one, is another
   first_seen : (xs : List A) → AllByRecursion (λ x. p x ≡ false) xs
       → AllByRecursion (λ x. s x ≡ true) (take 1 (filter m xs)) → list_any other (filter s xs) ≡ list_any other xs
   first_seen [] others footprint = refl
@@ -94,7 +94,7 @@ module _ {A : Type 0} (m s p : A → Bool) where
       go false true is there footprint more = rw is (more footprint)
       go false false is there footprint more = rw is (more footprint)
 
-  -- of the first two that are there, one is another if there is any
+  -- one of the first two is another, if there is another
   pub two_seen : (before : A → A → Bool) → ((x y : A) → p x ≡ true → before x y ≡ true → p y ≡ false) → (xs : List A)
       → Ascends before xs → AllByRecursion (λ x. s x ≡ true) (take 2 (filter m xs))
       → list_any other (filter s xs) ≡ list_any other xs

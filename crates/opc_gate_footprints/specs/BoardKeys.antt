@@ -9,7 +9,7 @@ use Rattle.opc_state.specs.Loads.{masters}
 use Rattle.opc_gate_footprints.specs.declared.keys.BoardKeys.{BoardKeys}
 use Rattle.opc_gate_footprints.specs.declared.keys.BoardKeys.TheVariants as keys
 
--- two masters: at least one of them is another than any that is named
+-- two masters: at least one of them is not the one that is named
 abbrev pub HasMasters : Footprint → BoardRows → Type 0
 HasMasters footprint b = AllByRecursion (λ c. has_console_of footprint c ≡ true) (take 2 (masters b))
 

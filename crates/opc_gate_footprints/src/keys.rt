@@ -12,7 +12,7 @@ use opc_names::name::{ConsoleName, Device, UnitName, UserId};
 use opc_names::reply_id::ReplyId;
 use opc_reader_commands::command::Command;
 
-/// What a command or an event names on the board or asks about, besides the console where it is typed.
+/// What a command or an event names on the board or depends on, besides the console where it is typed.
 #[derive(Clone, Copy)]
 pub enum BoardKeys {
     Nothing,

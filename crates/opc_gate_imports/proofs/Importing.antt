@@ -1,4 +1,4 @@
--- What an import comes to.
+-- The outcome of an import.
 use Rattle.std.proofs.Common.{
   ◌≡◌,
   ◌==◌,

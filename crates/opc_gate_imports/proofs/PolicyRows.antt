@@ -169,7 +169,7 @@ edits_more all i row start now new o low is was edit added =
 abbrev all_consoles : Footprint
 all_consoles = record { units = λ _. false; devices = λ _. false; consoles = λ _. true; replies = λ _. false }
 
--- rows ask about consoles, and change them, alone
+-- rows depend on consoles, and change them, alone
 alone_defined : (row : Row) (b : BoardRows) → console_after row (consoles_alone b) ≡ consoles_alone (console_after row b)
 alone_defined (rows.Console name auth mode) b = go (console_at b name)
   where

@@ -43,7 +43,7 @@ pub record HaveNothingNew (more : List Row) (s : State) : Type 0 where
   pub policy : edits_of more ≡ []
   pub board : consoles_after more s.board ≡ s.board
 
--- What rows ask about a board, and change of it: its consoles, and whether the day is halted besides.
+-- What rows depend on of a board, and change of it: its consoles, besides whether the day is halted.
 abbrev pub consoles_alone : BoardRows → BoardRows
 consoles_alone b = record {
   units = [];

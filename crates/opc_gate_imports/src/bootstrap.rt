@@ -182,7 +182,7 @@ fn edits_of_rows(
     edits_of_consoles(alloc, &old, board, rows)
 }
 
-// Loads what is stored. Of the board, rows ask about consoles alone.
+// Loads what is stored. Of the board, rows depend on consoles alone.
 fn stored_on<T: Tables>(tables: &mut T, alloc: Global) -> Result<Stored, StoreFault>
     ensures { Loads T.meaning tables.old tables.new result
         (λ s stored. (stored.policy ≡ s.policy) × (stored.board ≡ consoles_alone s.board) × IsInOrder s.board) }

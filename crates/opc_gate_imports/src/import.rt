@@ -1,4 +1,4 @@
-//! What an import comes to: loads, and no change.
+//! The outcome of an import: loads, and no change.
 ghost use Rattle.std.specs.Prelude.{◌≡◌, ◌∷◌, ◌++◌, [], IfOk, OnOk, None, codes, string_bytes};
 ghost use Rattle.std.specs.Fmt.{decimal};
 ghost use Rattle.opc_board.specs.Invariants.{Name, console_at};
@@ -111,7 +111,7 @@ fn same_batch(alloc: Global, number: u32, kept: &[Row], rows: &[Row]) -> Result<
     }))
 }
 
-// What a batch comes to, by what is stored under its number.
+// The outcome of a batch, by what is stored under its number.
 fn batch_on<T: Tables>(
     tables: &mut T,
     alloc: Global,
@@ -127,8 +127,8 @@ fn batch_on<T: Tables>(
     }
 }
 
-/// What an import comes to that is asked at a console, whose row is loaded: first, whether SPECIAL asks (E50), then the
-/// number (E56), and only for a new number what is in the way of the rows (E52, E53, E41).
+/// The outcome of an import at a console, whose row is loaded: first, whether the acting user is SPECIAL (E50), then
+/// the number (E56), and only for a new number what is in the way of the rows (E52, E53, E41).
 pub fn import_on<T: Tables>(
     tables: &mut T,
     alloc: Global,

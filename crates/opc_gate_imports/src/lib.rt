@@ -1,4 +1,4 @@
-//! Policies that are imported in numbered batches: what a batch comes to.
+//! Policies that are imported in numbered batches: the outcome of a batch.
 #![tactic(auto)]
 
 pub mod bootstrap;

@@ -56,7 +56,7 @@ pub bare_lines : (profiles : List Profile) → map profile_line (map bare profil
 bare_lines [] = refl
 bare_lines (p ∷ profiles) = ap (λ l. profile_line p ∷ l) (bare_lines profiles)
 
--- filters by tests that answer alike keep the same
+-- filters by tests that return the same keep the same
 pub alike : {X : Type 0} (p q : X → Bool) → ((x : X) → p x ≡ q x) → (xs : List X) → filter p xs ≡ filter q xs
 alike p q same [] = refl
 alike {X} p q same (x ∷ xs) = go (p x) (q x) (same x) (alike p q same xs)
@@ -76,7 +76,7 @@ kept_none [] = refl
 kept_none (x ∷ xs) = kept_none xs
 
 module _ (s : State) (c : ConsoleRow) (profiles : List Profile) where
-  -- whoever sees all is shown all,
+  -- a user who sees all is shown all,
   pub all_shown : (o : Option User) → o ≡ acting s c → sees_all o ≡ true → profiles ≡ filter (profile_shown s c) profiles
   all_shown o acts sees =
       sym (alike (profile_shown s c) (λ p. true)
@@ -88,7 +88,7 @@ module _ (s : State) (c : ConsoleRow) (profiles : List Profile) where
   none_shown acts = alike (profile_shown s c) (λ p. false)
       (λ p. ap (λ o. sees_all o || is_owner o (Some p) || holds_read s c o p) (sym acts)) profiles ∙ kept_none profiles
 
-  -- and another user what that user sees
+  -- and another user what that user may see
   pub seen_shown : (u : User) → Some u ≡ acting s c → sees_all (Some u) ≡ false
       → filter (is_seen c u (groups_of s.policy.connects u.id)) profiles ≡ filter (profile_shown s c) profiles
   seen_shown u acts not_all =
@@ -96,7 +96,7 @@ module _ (s : State) (c : ConsoleRow) (profiles : List Profile) where
       (λ p. ap (λ o. sees_all o || is_owner o (Some p) || holds_read s c o p) (sym acts)
       ∙ ap (λ b. b || is_owner (Some u) (Some p) || holds_read s c (Some u) p) not_all) profiles)
 
--- what a listing comes to, by what was found out about the console that asks
+-- the outcome of a listing, by what was found out about its console
 pub account_reported : (s : State) (name : List ℕ) (from count : ℕ) (c : ConsoleRow) (u : Option User) (lines : List Line)
     → console_asking s name ≡ Ok c → u ≡ acting s c → sees_all u ≡ true
     → lines ≡ map account_line (asked_for from count s.account)

@@ -66,8 +66,8 @@ fn lines_on<T: Tables>(
     account_lines(alloc, rows.as_slice())
 }
 
-/// What a listing of the account comes to that is asked at a console, whose row is loaded: its rows from a number on,
-/// at most the requested count, if SPECIAL or AUDITOR asks (else E50).
+/// The outcome of a listing of the account at a console, whose row is loaded: its rows from a number on, at most the
+/// requested count, if the acting user is SPECIAL or AUDITOR (else E50).
 pub fn account_on<T: Tables>(
     tables: &mut T,
     alloc: Global,

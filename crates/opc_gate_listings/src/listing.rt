@@ -1,4 +1,4 @@
-//! What a listing comes to.
+//! The outcome of a listing.
 ghost use Rattle.std.specs.Prelude.{IfOk, None};
 ghost use Rattle.opc_state.specs.State.{State};
 ghost use Rattle.opc_machine.specs.Effects.{IsOutcome};
@@ -10,7 +10,7 @@ use opc_rows::Rows;
 use opc_terms::store_fault::StoreFault;
 use std::alloc::Global;
 
-// Lines, which no rule decided; nothing changes.
+// Lines, without a rule that decided; nothing changes.
 pub(crate) fn listing(alloc: Global, lines: Rows<Line>) -> Result<Outcome, StoreFault>
     ensures { (s : State) → IfOk result (IsOutcome s (does s lines None)) }
 {

@@ -75,7 +75,7 @@ fn holds_read(console: &ConsoleRow, user: &User, groups: &[GroupName], profile: 
     level.includes(Level::Read)
 }
 
-// The lines of the profiles that a user sees who does not see all.
+// The lines of the profiles that are shown to a user who does not see all.
 fn seen_lines(
     alloc: Global,
     console: &ConsoleRow,
@@ -113,7 +113,7 @@ fn all_groups<T: Tables>(
     Ok(groups)
 }
 
-// The profiles of a class for one who sees all of them: no access list is loaded.
+// The profiles of a class, for a user who sees all of them: no access list is loaded.
 #[tactic(auto, using(crate::proofs::Listed::bare_lines))]
 fn all_on<T: Tables>(tables: &mut T, alloc: Global, class: Class) -> Result<Rows<Line>, StoreFault>
     ensures { Loads T.meaning tables.old tables.new result
@@ -123,7 +123,7 @@ fn all_on<T: Tables>(tables: &mut T, alloc: Global, class: Class) -> Result<Rows
     profile_lines(alloc, profiles.as_slice())
 }
 
-// The profiles that a user sees at a console who does not see all.
+// The profiles that are shown at a console to a user who does not see all.
 fn seen_on<T: Tables>(
     tables: &mut T,
     alloc: Global,
@@ -141,8 +141,8 @@ fn seen_on<T: Tables>(
     seen_lines(alloc, console, user, groups.as_slice(), profiles.as_slice())
 }
 
-// The lines for whoever asks, of one class in one pass: all for SPECIAL and AUDITOR, without access lists; none for
-// nobody; otherwise with access lists and with the user's groups.
+// The lines for the acting user, of one class in one pass: all for SPECIAL and AUDITOR, without access lists; none if
+// nobody acts; otherwise by access lists and the user's groups.
 #[tactic(auto, using(crate::proofs::Listed::all_shown, crate::proofs::Listed::none_shown, crate::proofs::Listed::seen_shown))]
 fn lines_on<T: Tables>(
     tables: &mut T,
@@ -163,8 +163,8 @@ fn lines_on<T: Tables>(
     }
 }
 
-/// What a listing of the profiles of a class comes to that is asked at a console, whose row is loaded: those that may
-/// be shown there, in their order.
+/// The outcome of a listing of the profiles of a class at a console, whose row is loaded: those that may be shown
+/// there, in their order.
 pub fn profiles_on<T: Tables>(
     tables: &mut T,
     alloc: Global,

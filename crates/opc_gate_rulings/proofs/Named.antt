@@ -19,13 +19,13 @@ found_is_named (d ∷ ds) name c h = go (bytes_eq d.name name) (bytes_eq-Decides
     go true same later e = subst (λ (x : ConsoleRow). x.name ≡ name) (some_is d c e) (same.0 refl)
     go false same later e = later e
 
--- a console that is found goes by the name of its row
+-- a console that is found has the name of its row
 pub found_by_name : (consoles : List ConsoleRow) (name : List ℕ) (c : ConsoleRow)
     → find (λ (d : ConsoleRow). bytes_eq d.name name) consoles ≡ Some c
     → find (λ (d : ConsoleRow). bytes_eq d.name c.name) consoles ≡ Some c
 found_by_name consoles name c h = subst (λ n. find (λ (d : ConsoleRow). bytes_eq d.name n) consoles ≡ Some c) (sym (found_is_named consoles name c h)) h
 
--- what came of a row holds of whatever name the row was loaded by
+-- what follows from a row holds, whatever name the row was loaded by
 pub by_any_name : {A F : Type 0} (IsNamed : List ℕ → Type 0) (P : List ℕ → A → Type 0) (r : Result A F)
     → ((name : List ℕ) → IsNamed name → IfOk r (P name)) → IfOk r (λ o. (name : List ℕ) → IsNamed name → P name o)
 by_any_name IsNamed P (Ok o) f = f

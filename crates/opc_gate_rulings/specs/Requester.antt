@@ -1,4 +1,4 @@
--- What is found out about the console that asks, and about who acts there.
+-- What is found out about the console of a request, and about who acts there.
 use Rattle.std.specs.Prelude.{◌≡◌, ℕ, List, Result, Ok, Err}
 use Rattle.opc_board.specs.declared.rows.ConsoleRow.{ConsoleRow}
 use Rattle.opc_policy_members.specs.declared.policy.Policy.{Policy}
@@ -16,12 +16,12 @@ abbrev pub IsConsoleFor : State → List ℕ → Result ConsoleRow Refusal → T
 IsConsoleFor s name (Ok console) = console_for s name ≡ Ok console
 IsConsoleFor s name (Err refusal) = console_for s name ≡ Err refusal
 
--- the console that asks and who acts there, or why it may not ask
+-- the console of a request and who acts there, or why it may not make one
 abbrev pub IsRequester : State → List ℕ → Asking → Type 0
 IsRequester s name (By asking) = (console_asking s name ≡ Ok asking.console) × (asking.user ≡ acting s asking.console)
 IsRequester s name (Refused refusal) = console_asking s name ≡ Err refusal
 
--- whoever is logged on at a console where somebody asks is stored
+-- the user who is logged on at the console of a request is stored
 abbrev pub IsOfStored : Policy → Asking → Type 0
 IsOfStored p (By asking) = IsConsoleOfStored p asking.console
 IsOfStored p (Refused refusal) = Unit {0}

@@ -1,4 +1,4 @@
--- How needs are ruled on at a console, before it is known what is needed.
+-- How needs are ruled on at a console, before the need is known.
 use Rattle.std.specs.Prelude.{◌≡◌, ◌⊎◌, true, false, Some, None}
 use Rattle.opc_names.specs.declared.class.Class.TheVariants.{Opercmds}
 use Rattle.opc_policy_members.specs.Taken.{is_active}

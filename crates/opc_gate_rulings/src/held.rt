@@ -23,8 +23,8 @@ use std::alloc::Global;
 /// with 16, 3,000 entries cost more than twice what ten cost; with 12, a refusal by ten entries cost 15 % more.
 const FIRST: u32 = 14;
 
-/// An access list of at most this many entries is searched by its entries at once: to load the groups of the user is a
-/// query as well.
+/// An access list of at most this many entries is searched by its entries at once: loading the user's groups is a query
+/// as well.
 const FEW: usize = 1;
 
 /// The level that a user holds at a console in a profile, whose access list is still in the tables. More and more of
@@ -52,7 +52,7 @@ pub(crate) fn level_on<T: Tables>(
     Err(StoreFault::NoMemory)
 }
 
-// The same, if the access list or the groups are fewer than this.
+// The same, if the access list or the list of groups has fewer members than this.
 fn level_within<T: Tables>(
     tables: &mut T,
     alloc: Global,
@@ -140,7 +140,7 @@ fn listed_groups_of<T: Tables>(
     let mut groups = Vec::new(alloc);
     for entry in entries {
         // Whether the id of an entry is a connect group of the user is looked up by its text: `*` and ids that begin
-        // with a digit are not names of groups, and nothing promises that no connect in the tables has them.
+        // with a digit are not names of groups, and no clause states that no connect in the tables has them.
         if tables.is_connected(&user.id, entry.id.text())? {
             groups.push(group_of(&entry.id)?)?;
         }

@@ -1,4 +1,5 @@
-//! Rulings: who acts and who asks at a console, how a need is ruled on there, and what may be shown.
+//! Rulings: who acts at a console, and whether it may make a request; how a need is ruled on there, and what may be
+//! shown.
 #![tactic(auto)]
 
 mod held;

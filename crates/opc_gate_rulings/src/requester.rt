@@ -1,4 +1,4 @@
-//! The console that asks, and who acts there.
+//! The console of a request, and who acts there.
 ghost use Rattle.std.specs.Prelude.{◌≡◌, ◌&&◌, IfOk, Some};
 ghost use Rattle.std.specs.Option.{is_none};
 ghost use Rattle.opc_board.specs.Invariants.{Name, console_at};
@@ -20,21 +20,21 @@ use opc_terms::rule::Rule;
 use opc_terms::store_fault::StoreFault;
 use std::alloc::Global;
 
-/// A console that may ask, and who acts there, if anybody does.
+/// A console that may make a request, and who acts there, if anybody does.
 #[derive(Clone, Copy)]
 pub struct Requester {
     pub console: ConsoleRow,
     pub user: Option<User>,
 }
 
-/// Who asks at a console, or why nobody may ask there.
+/// Who makes a request at a console, or why nobody may.
 #[derive(Clone, Copy)]
 pub enum Asking {
     By(Requester),
     Refused(Refusal),
 }
 
-/// The console of a name, whose row is loaded: it has to be there (E10), and online (E11).
+/// The console of a name, whose row is loaded: it must be there (E10), and online (E11).
 pub fn console_for(console: Option<ConsoleRow>) -> Result<ConsoleRow, Refusal>
     ensures console { (s : State) → (name : Name) → console ≡ console_at s.board name → IsConsoleFor s name result }
     ensures row { IfOk result (λ row. console ≡ Some row) }
@@ -73,9 +73,9 @@ fn is_revoked(user: &Option<User>) -> bool
     }
 }
 
-/// The console that asks, whose row is loaded, and who acts there. It has to be there and online; somebody has to be
-/// logged on if its mode is REQUIRED (E12), and whoever acts may not be revoked (E13). If a user is logged on who is
-/// not stored, this fails.
+/// The console of a request, whose row is loaded, and who acts there. It must be there and online; somebody must be
+/// logged on if its mode is REQUIRED (E12), and the acting user must not be revoked (E13). If a user is logged on who
+/// is not stored, this fails.
 pub fn requester_on<T: Tables>(
     tables: &mut T,
     alloc: Global,
@@ -105,7 +105,7 @@ pub fn requester_on<T: Tables>(
     Ok(Asking::By(Requester { console, user }))
 }
 
-/// Whether there is a user, with SPECIAL.
+/// Whether there is a user, and the user is SPECIAL.
 pub fn is_special(user: &Option<User>) -> bool
     ensures { result ≡ is_special user.now }
 {
@@ -115,7 +115,7 @@ pub fn is_special(user: &Option<User>) -> bool
     }
 }
 
-/// Whether whoever acts is SPECIAL or AUDITOR.
+/// Whether the acting user is SPECIAL or AUDITOR.
 pub fn sees_all(user: &Option<User>) -> bool
     ensures { result ≡ sees_all user.now }
 {
@@ -132,7 +132,7 @@ pub fn owns(user: &User, profile: &Profile) -> bool
     profile.owner == user.id
 }
 
-/// Whether whoever acts owns a profile.
+/// Whether the acting user owns a profile.
 pub fn is_owner(user: &Option<User>, profile: &Profile) -> bool
     ensures { result ≡ is_owner user.now (Some profile.now) }
 {

@@ -128,7 +128,8 @@ fn own_user_on<T: Tables>(
     tables.user(alloc, &own_id(&console.name))
 }
 
-/// For whom a console acts: the user who is logged on; if nobody is, the console's own user.
+/// For whom a console acts: the user who is logged on; if nobody is, the console's own user. The own user of an offline
+/// console shows only in the account, in the row for E11. A refusal loads that user again, for the account.
 pub fn acting_user_on<T: Tables>(
     tables: &mut T,
     alloc: Global,
@@ -347,7 +348,7 @@ pub fn shown_lines<T: Tables>(
         (RulingBasis::User(user), Some(beginning)) => {
             shown_together(tables, alloc, &beginning, user, console, lines)
         }
-        // The lines are few, or no profile decides for whoever acts.
+        // The lines are few, or no profile decides for the acting user.
         _ => shown_one_by_one(tables, alloc, basis, console, lines),
     }
 }

@@ -20,7 +20,7 @@ use opc_board::line::{Item, Line};
 use opc_board::rows::ConsoleRow;
 use opc_names::class::Class;
 use opc_names::level::Level;
-use opc_names::name::{ConsoleName, Resource};
+use opc_names::name::ConsoleName;
 use opc_policy::ruling::{Ruling, console_ruling, ruling_at};
 use opc_policy_members::user::User;
 use opc_policy_shared::Candidates;
@@ -67,6 +67,13 @@ pub(crate) fn beginning_of(lines: &[Line]) -> Option<Beginning>
         }
     }
     None
+}
+
+/// What resources begin with, and the profiles that may decide those.
+#[derive(Drop)]
+pub(crate) struct Shortlist {
+    pub beginning: &'static str,
+    pub candidates: Candidates,
 }
 
 /// The profiles that may decide resources with a beginning: those whose heads go on after it, and those whose heads are
@@ -137,8 +144,7 @@ fn ruling_among<T: Tables>(
     levels: &mut Vec<Option<Level>>,
     user: &User,
     console: &ConsoleName,
-    resource: &Resource,
-    needed: Level,
+    need: &Need,
 ) -> Result<Option<Ruling>, StoreFault>
     requires { vec_len levels.old ≡ length candidates.now }
     ensures len { vec_len levels.new ≡ vec_len levels.old }
@@ -147,54 +153,52 @@ fn ruling_among<T: Tables>(
         → AreKnown s user.now console.now candidates.now levels.old.items
         → AreKnown s user.now console.now candidates.now levels.new.items }
     ensures ruling { Answers T.meaning tables.old tables.new result (λ s r.
-        (beginning rest : List ℕ) → AreLoaded s beginning candidates.now → resource.now ≡ beginning ++ rest
+        (beginning rest : List ℕ) → AreLoaded s beginning candidates.now → need.now.resource ≡ beginning ++ rest
         → AreKnown s user.now console.now candidates.now levels.old.items
-        → r ≡ class_ruling true (deciding_in s.policy Opercmds resource.now) user.now (Some console.now)
-        (groups_of s.policy.connects user.now.id) needed) }
+        → r ≡ class_ruling true (deciding_in s.policy Opercmds need.now.resource) user.now (Some console.now)
+        (groups_of s.policy.connects user.now.id) need.now.level) }
 {
-    let Some(place) = candidates.deciding(resource) else {
+    let Some(place) = candidates.deciding(&need.resource) else {
         return Ok(None);
     };
     let held = level_among(tables, alloc, candidates, place, levels, user, console)?;
     let profile = candidates.at(place);
-    Ok(Some(ruling_at(profile, held, needed)))
+    Ok(Some(ruling_at(profile, held, need.level)))
 }
 
 /// The ruling on a user at a console: by the candidates, if the resource has their beginning.
 pub(crate) fn by_candidates<T: Tables>(
     tables: &mut T,
     alloc: Global,
-    beginning: &Beginning,
-    candidates: &Candidates,
+    shortlist: &Shortlist,
     levels: &mut Vec<Option<Level>>,
     user: &User,
     console: &ConsoleRow,
     need: &Need,
 ) -> Result<Ruling, StoreFault>
-    requires { vec_len levels.old ≡ length candidates.now }
+    requires { vec_len levels.old ≡ length shortlist.now.candidates }
     ensures len { vec_len levels.new ≡ vec_len levels.old }
     ensures kept { IsKept T.meaning tables.old tables.new }
     ensures known { T.meaning.is_sure tables.new → (s : State) → T.meaning.represents tables.old s
-        → AreKnown s user.now console.now.name candidates.now levels.old.items
-        → AreKnown s user.now console.now.name candidates.now levels.new.items }
+        → AreKnown s user.now console.now.name shortlist.now.candidates levels.old.items
+        → AreKnown s user.now console.now.name shortlist.now.candidates levels.new.items }
     ensures ruling { Answers T.meaning tables.old tables.new result (λ s r.
-        AreLoaded s beginning.now.first.now candidates.now
-        → AreKnown s user.now console.now.name candidates.now levels.old.items
+        AreLoaded s shortlist.now.beginning.now shortlist.now.candidates
+        → AreKnown s user.now console.now.name shortlist.now.candidates levels.old.items
         → r ≡ policy_ruling true (deciding_in s.policy Opercmds need.now.resource) (Some user.now)
         (Some console.now.name) (groups_of s.policy.connects user.now.id) console.now.auth need.now) }
 {
-    if !need.resource.text().starts_with(beginning.first) {
+    if !need.resource.text().starts_with(shortlist.beginning) {
         return by_profile(tables, alloc, user, console, need);
     }
     let ruling = ruling_among(
         tables,
         alloc,
-        candidates,
+        &shortlist.candidates,
         levels,
         user,
         &console.name,
-        &need.resource,
-        need.level,
+        need,
     )?;
     Ok(ruling.unwrap_or(console_ruling(console.auth, need)))
 }

@@ -11,12 +11,11 @@ ghost use Rattle.opc_gate_rulings.specs.Shared.{AreKnown, AreLoaded};
 ghost use Rattle.opc_gate_rulings.specs.declared.ruling.RulingBasis.TheVariants.{User as TheUser};
 
 use crate::ruling::{is_allowed, need_to_show};
-use crate::shared::{Beginning, by_candidates, candidates_on, unknown};
+use crate::shared::{Beginning, Shortlist, by_candidates, candidates_on, unknown};
 use opc_board::line::Line;
 use opc_board::rows::ConsoleRow;
 use opc_names::level::Level;
 use opc_policy_members::user::User;
-use opc_policy_shared::Candidates;
 use opc_rows::Rows;
 use opc_state::tables::Tables;
 use opc_terms::store_fault::StoreFault;
@@ -26,30 +25,27 @@ use std::alloc::Global;
 fn is_shown_among<T: Tables>(
     tables: &mut T,
     alloc: Global,
-    beginning: &Beginning,
-    candidates: &Candidates,
+    shortlist: &Shortlist,
     levels: &mut Vec<Option<Level>>,
     user: &User,
     console: &ConsoleRow,
     line: &Line,
 ) -> Result<bool, StoreFault>
-    requires { vec_len levels.old ≡ length candidates.now }
+    requires { vec_len levels.old ≡ length shortlist.now.candidates }
     ensures len { vec_len levels.new ≡ vec_len levels.old }
     ensures kept { IsKept T.meaning tables.old tables.new }
     ensures known { T.meaning.is_sure tables.new → (s : State) → T.meaning.represents tables.old s
-        → AreKnown s user.now console.now.name candidates.now levels.old.items
-        → AreKnown s user.now console.now.name candidates.now levels.new.items }
+        → AreKnown s user.now console.now.name shortlist.now.candidates levels.old.items
+        → AreKnown s user.now console.now.name shortlist.now.candidates levels.new.items }
     ensures shown { Answers T.meaning tables.old tables.new result (λ s b.
-        AreLoaded s beginning.now.first.now candidates.now
-        → AreKnown s user.now console.now.name candidates.now levels.old.items
+        AreLoaded s shortlist.now.beginning.now shortlist.now.candidates
+        → AreKnown s user.now console.now.name shortlist.now.candidates levels.old.items
         → IsRulingBasis s console.now (TheUser user.now) → b ≡ shown s console.now line.now) }
 {
     match need_to_show(line.item) {
         None => Ok(true),
         Some(need) => {
-            let ruling = by_candidates(
-                tables, alloc, beginning, candidates, levels, user, console, &need,
-            )?;
+            let ruling = by_candidates(tables, alloc, shortlist, levels, user, console, &need)?;
             Ok(is_allowed(ruling))
         }
     }
@@ -59,28 +55,18 @@ fn is_shown_among<T: Tables>(
 fn shown_among<T: Tables>(
     tables: &mut T,
     alloc: Global,
-    beginning: &Beginning,
-    candidates: &Candidates,
+    shortlist: &Shortlist,
     user: &User,
     console: &ConsoleRow,
     lines: Vec<Line>,
 ) -> Result<Rows<Line>, StoreFault>
-    ensures { Loads T.meaning tables.old tables.new result (λ s kept. AreLoaded s beginning.now.first.now candidates.now
+    ensures { Loads T.meaning tables.old tables.new result (λ s kept. AreLoaded s shortlist.now.beginning.now shortlist.now.candidates
         → IsRulingBasis s console.now (TheUser user.now) → kept ≡ filter (shown s console.now) lines.items) }
 {
-    let mut levels = unknown(alloc, candidates.len())?;
+    let mut levels = unknown(alloc, shortlist.candidates.len())?;
     let mut kept = Rows::new(alloc);
     for line in lines {
-        if is_shown_among(
-            tables,
-            alloc,
-            beginning,
-            candidates,
-            &mut levels,
-            user,
-            console,
-            &line,
-        )? {
+        if is_shown_among(tables, alloc, shortlist, &mut levels, user, console, &line)? {
             kept.push(line)?;
         }
     }
@@ -102,6 +88,9 @@ pub(crate) fn shown_together<T: Tables>(
     ensures { Loads T.meaning tables.old tables.new result
         (λ s kept. IsRulingBasis s console.now (TheUser user.now) → kept ≡ filter (shown s console.now) lines.items) }
 {
-    let candidates = candidates_on(tables, alloc, beginning)?;
-    shown_among(tables, alloc, beginning, &candidates, user, console, lines)
+    let shortlist = Shortlist {
+        beginning: beginning.first,
+        candidates: candidates_on(tables, alloc, beginning)?,
+    };
+    shown_among(tables, alloc, &shortlist, user, console, lines)
 }

@@ -9,7 +9,7 @@ use Rattle.opc_gate_rulings.proofs.shared.by_candidates.Goals as goal
 pub returns-clause-ruling : goal.returns-clause-ruling
 returns-clause-ruling g c sure s was loaded known =
     let need = c.args.need.now in
-    let first = c.args.beginning.now.first.now in
+    let first = c.args.shortlist.now.beginning.now in
     let prefix = rw c.text.ensures.text at c.if-not-starts_with.ensures.cases in
     let is : need.resource ≡ first ++ drop prefix.0 need.resource = prefix.1.1 in
     rw (

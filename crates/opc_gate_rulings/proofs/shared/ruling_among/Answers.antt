@@ -11,5 +11,5 @@ returns-clause-ruling g c sure s was beginning rest loaded is known =
     let held : c.in_ok-held.held ≡ held_in s.policy p c.args.user.now c.args.console.now =
     c.in_ok-held.ensures.level sure s was p known here in
     rw (c.ruling_at.ensures.ruling, held)
-    (one_among s beginning rest c.args.resource.now c.args.candidates.now loaded is c.args.user.now c.args.console.now
-    c.args.needed p (sym here ∙ c.in-Some.ensures.1))
+    (one_among s beginning rest c.args.need.now.resource c.args.candidates.now loaded is c.args.user.now c.args.console.now
+    c.args.need.now.level p (sym here ∙ c.in-Some.ensures.1))

@@ -1,4 +1,4 @@
--- What a crash leaves of tables, beneath the states that it may leave, and what closed tables answer.
+-- What a crash leaves of tables, beneath the states that it may leave, and the answers of closed tables.
 use Rattle.std.proofs.Common.{◌≡◌, ◌∙◌, true, false, Ok, Err, refl, sym, ap, subst}
 use Rattle.sqlite_trees.specs.declared.store.Store.{Ghosts}
 use Rattle.sqlite_trees.specs.Tree.{Trees}

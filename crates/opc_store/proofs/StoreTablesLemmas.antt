@@ -1,4 +1,4 @@
--- What loads and a commit are to the machine that keeps its state by them.
+-- What loads and a commit are for the machine that keeps its state by them.
 use Rattle.std.proofs.Common.{◌≡◌, ◌⊎◌, inl, inr, Ok, Err, Result, IfOk, OnOk, OnErr, IsTrue, map, sym, subst, arith}
 use Rattle.std.proofs.lemmas.Result.{on_ok_weaker}
 use Rattle.sqlite_trees.specs.declared.store.Store.{Ghosts}
@@ -89,7 +89,7 @@ module _ {S : Type 0} (g : Ghosts S) where
       pub was_sure : IsSure g c → IsSure g a
       was_sure clean = omega (arith, survives.clean, looks.survives.clean)
 
-      -- it was asked of tables that are open
+      -- it was loaded from tables that are open
       pub commit_open : IsSure g c → OnOk r (IsTrue (state g a).is_open)
       commit_open clean = let mid = mid_sure clean in on_ok r (looks.was_open mid (looks.opened mid))
 

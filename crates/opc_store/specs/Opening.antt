@@ -64,13 +64,13 @@ abbrev pub of_store : StoreFault → OpenFault
 of_store store_fault.NoMemory = fault.NoMemory
 of_store store_fault.Store = fault.Store
 
--- the fault of the gate that an opening comes to: E90, E91 or E92
+-- the fault of the gate for a failed opening: E90, E91 or E92
 abbrev pub opening_fault : OpenFault → Fault
 opening_fault fault.NoMemory = the_fault.NoMemory
 opening_fault fault.Store = the_fault.Store
 opening_fault (fault.NotOurs version) = the_fault.NotOurs version
 
--- out of memory is distinguished from every other cause
+-- a failed allocation is distinguished from every other cause
 abbrev pub open_fault : Error → OpenFault
 open_fault error = of_store (fault_of error)
 
@@ -91,8 +91,8 @@ WasOlder {S} g old = (asked : Held S) × (version : ℕ) × NamesVersion version
 abbrev pub IsKnown : {S : Type 0} → Ghosts S → State → State → Type 0
 IsKnown g old new = NamesVersion made_version old new ⊎ WasOlder g old
 
--- Why a database with names of ours is not opened: its version is unknown, or cannot be read, or it is out of memory,
--- or its tables are older and the migration fails.
+-- Why a database with our names is not opened: its version is unknown or cannot be read, or an allocation fails, or its
+-- tables are older and the migration fails.
 abbrev pub IsRefused : {S : Type 0} → Ghosts S → OpenFault → State → State → Type 0
 IsRefused g returned old new =
     ((version : ℕ) × NamesVersion version old new × (¬ IsOlder version) × (version ≢ made_version)
@@ -118,14 +118,14 @@ pub record Adopts {S : Type 0} (g : Ghosts S) (image : Image) (are_made : Bool) 
     0 where
   pub opens : Opens (state g opened) × IsLive (state g opened)
   pub found : FindsIn image (state g opened)
-  -- with a name of ours it named a version that is known
+  -- with one of our names it named a known version
   pub known : IsTrue (has_our_name opened.schema) → IsKnown g (state g opened) (state g adopted)
   -- without one it got the tables,
   pub made : IsFalse (has_our_name opened.schema) → AreMadeOver g opened (state g adopted).now.trees
-  -- and only then they count as made now
+  -- and only then they count as newly made
   pub counts : are_made ≡ not (has_our_name opened.schema)
 
--- A store stands over what files held, and its tables were made now or not.
+-- A store stands over what files held, and its tables are newly made or not.
 abbrev pub IsAdopted : {D : Type 0} {g : disk.Ghosts D} → Image → Bool → Held (FileStore D g) → Type 0
 IsAdopted {D = D} {g = g} image are_made store =
     (opened : Held (FileStore D g)) × Adopts over_files image are_made opened store
@@ -136,7 +136,7 @@ LeavesItself s = HasCleanDisk s → (db : Trees) → s.may_leave db → db ≡ s
 
 module _ {D : Type 0} {g : disk.Ghosts D} where
   -- Files were opened, or made: what they held is what the tables represent, also of older tables; where nothing was
-  -- defined the tables are those of the empty state; a crash leaves that; and they were made now, or not.
+  -- defined the tables are those of the empty state; a crash leaves that; and they are newly made, or not.
   pub record IsOpenedAt (image : Image) (are_made : Bool) (opened : Held (FileStore D g)) : Type 0 where
     pub found : HasCleanDisk (file_state opened) → (db : Trees) → HoldsDatabase image db → (s : TheState)
         → AreTablesOf db s → Represents (file_state opened).now s
@@ -147,7 +147,7 @@ module _ {D : Type 0} {g : disk.Ghosts D} where
     pub settled : LeavesItself (file_state opened)
     pub adopted : HasCleanDisk (file_state opened) → IsAdopted image are_made opened
 
--- The files were not opened: the system refused them or is out of memory, and nothing is left; or `left` is what an
+-- The files were not opened: the system refused them or an allocation failed, and nothing is left; or `left` is what an
 -- opening that meets this error leaves of `files`.
 abbrev pub FailsToOpen : {D : Type 0} (g : disk.Ghosts D) → (Bool → D → Type 0) → OpenFault → Type 0
 FailsToOpen {D} g is_fresh returned =
@@ -162,12 +162,12 @@ pub record FailsToAdopt {S : Type 0} (g : Ghosts S) (image : Image) (returned : 
     0 where
   pub opens : HasCleanDisk (state g left) → Opens (state g opened) × IsLive (state g opened)
   pub found : HasCleanDisk (state g left) → FindsIn image (state g opened)
-  -- without a name of ours it would get the tables
+  -- without one of our names it would get the tables
   pub unmade : IsFalse (has_our_name (state g opened).now.schema) → IsNoVersion returned
   pub refused : HasCleanDisk (state g left) → IsTrue (has_our_name (state g opened).now.schema)
       → IsRefused g returned (state g opened) (state g left)
   pub unharmed : HasCleanDisk (state g left) → IsTrue (state g left).is_open → (state g left).now ≡ (state g opened).now
-  -- if a version is answered, a crash leaves what it would have left before the question
+  -- if a version is returned, a crash leaves what it would have left before the query
   pub survives : Survives (state g opened) (state g left) (λ db. IsNoVersion returned × MayLeave g opened db)
 
 -- Why an opening at a path fails: the files are not opened, or what they held is not adopted.

@@ -26,7 +26,7 @@ pub record IsFoundAt {D : Type 0} {g : disk.Ghosts D} (image : Image) (opened : 
   pub stored : HasCleanDisk (file_state opened) → IsFalse (is_blank image.db)
   pub settled : LeavesItself (file_state opened)
 
--- With a name of ours it names another version, or none; or it is out of memory.
+-- With one of our names it names another version, or none; or an allocation failed.
 abbrev pub IsOfAnother : OpenFault → (old new : State) → Type 0
 IsOfAnother returned old new =
     ((version : ℕ) × NamesVersion version old new × (version ≢ made_version) × (returned ≡ fault.NotOurs version))
@@ -46,7 +46,7 @@ pub record FailsToRead {S : Type 0} (g : Ghosts S) (image : Image) (returned : O
   pub unharmed : HasCleanDisk (state g left) → IsTrue (state g left).is_open → (state g left).now ≡ (state g opened).now
   pub survives : Survives (state g opened) (state g left) (λ _. ⊥)
 
--- The database file is empty, or of one byte: it holds no tables of ours, and is not opened.
+-- The database file is empty, or of one byte: it holds none of our tables, and is not opened.
 abbrev pub HoldsNothing : {D : Type 0} (g : disk.Ghosts D) → (Bool → D → Type 0) → OpenFault → Type 0
 HoldsNothing {D} g is_fresh returned =
     (db : D) × is_fresh false db × IsTrue (is_blank (g.seen db)) × (returned ≡ fault.NotOurs 0)

@@ -1,4 +1,4 @@
--- What a store holds that was closed and whose files are opened again, over any disk.
+-- What a store holds if it was closed and its files are opened again, over any disk.
 use Rattle.sqlite_disk.specs.declared.Disk as disk
 use Rattle.sqlite_store.specs.declared.store.FileStore.{FileStore}
 use Rattle.sqlite.specs.Files.{over_files, file_state}

@@ -1,5 +1,5 @@
--- What a crash leaves of tables, beneath the states that it may leave; what a store is as a source of profiles; and
--- what closed tables answer.
+-- What a crash leaves of tables, beneath the states that it may leave; what a store is as a source of profiles; and the
+-- answers of closed tables.
 use Rattle.std.specs.Prelude.{◌≡◌, ◌≢◌, List, Result, IsErr}
 use Rattle.sqlite_trees.specs.declared.store.Store.{Ghosts}
 use Rattle.sqlite_trees.specs.Tree.{Trees}
@@ -25,8 +25,8 @@ module _ {S : Type 0} (g : Ghosts S) (m : Meaning (Held S)) where
   LeavesWhatIsThere = (h : Held S) (s : State) → LeavesItself (state g h) → Represents (state g h).now s
       → (left : State) → m.may_leave h left → left ≡ s
 
--- A source over tables may be searched at any time. It has the profiles of the state that they represent, and what it
--- answers counts if the disk returned what was written.
+-- A source over tables may be searched at any time. It has the profiles of the state that they represent, and its
+-- answers count if the disk returned what was written.
 pub record IsSourceOfState {S : Type 0} (g : Ghosts S) (has : Held S → List Profile → Type 0)
     (is_ready is_faithful : Held S → Type 0) : Type 0 where
   pub ready : (h : Held S) → is_ready h
@@ -34,12 +34,12 @@ pub record IsSourceOfState {S : Type 0} (g : Ghosts S) (has : Held S → List Pr
   pub faithful : (h : Held S) → IsSure g h → is_faithful h
 
 module _ {S : Type 0} (g : Ghosts S) where
-  -- A load of closed tables answers a fault, and they stay closed: the clause of what it keeps states so,
+  -- A load of closed tables returns a fault, and they stay closed: the clause on what it keeps states so,
   abbrev pub ShutTablesGiveNothing : (V E : Type 0) → Type 0
   ShutTablesGiveNothing V E = (old new : Held S) (result : Result V E) → Looks g old new result → IsSure g new
       → IsShut g old → IsErr result × IsShut g new
 
-  -- and so does the clause of what it answers, if two states differ in what is loaded: closed tables count as those of
+  -- and so does the clause on what it returns, if two states differ in what is loaded: closed tables count as those of
   -- both.
   abbrev pub ShutTablesReturnNothing : (V W E : Type 0) → Type 0
   ShutTablesReturnNothing V W E =

@@ -1,4 +1,4 @@
--- What a connection is to the machine that keeps its state by it.
+-- What a connection is for the machine that keeps its state in it.
 use Rattle.std.specs.Prelude.{◌≡◌, IsTrue}
 use Rattle.sqlite_trees.specs.declared.store.Store.{Ghosts}
 use Rattle.sqlite_trees.specs.Tree.{Trees}

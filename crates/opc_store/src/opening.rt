@@ -30,7 +30,7 @@ ghost use Rattle.opc_store.specs.declared.opening.OpenFault.TheVariants as TheFa
 
 use crate::store::Store;
 use opc_store_file::copying::NotCopied;
-use opc_store_file::site::prepare;
+use opc_store_file::site::{IfMissing, prepare};
 use opc_store_migration::migrate::migrate_on;
 use opc_store_schema::faults::fault;
 use opc_store_schema::making::make_tables;
@@ -55,7 +55,7 @@ pub enum OpenFault {
     NoMemory,
     #[error("the store failed")]
     Store,
-    /// The tables are of this version, or have no version and are another program's: then it is 0.
+    /// The version of the tables, if it is another one; 0 if they are another program's.
     #[error("tables of version {0}")]
     NotOurs(u64),
 }
@@ -104,7 +104,7 @@ impl NotOpened {
     {
         let fault = match error.kind() {
             ErrorKind::OutOfMemory => OpenFault::NoMemory,
-            // No other error of the system means that memory was refused.
+            // No other error of the system is a failed allocation.
             _ => OpenFault::Store,
         };
         NotOpened {
@@ -113,19 +113,19 @@ impl NotOpened {
         }
     }
 
-    /// The files were not read.
+    /// The files could not be read.
     pub(crate) fn by_copying(error: NotCopied) -> Self
         ensures { IsNoVersion result.fault }
     {
         match error {
             NotCopied::System(error) => NotOpened::by_system(error),
             NotCopied::NoMemory => NotOpened::unread(OpenFault::NoMemory),
-            // A file that cannot be read as a database, whatever stands at its path.
+            // Otherwise the file cannot be read as a database, whatever stands at its path.
             _ => NotOpened::unread(OpenFault::Store),
         }
     }
 
-    /// A file that was to be read, and not written.
+    /// A file that was opened to be read, not written.
     pub(crate) fn unread(fault: OpenFault) -> Self
         ensures { result.fault ≡ fault }
     {
@@ -171,7 +171,7 @@ fn open_fault(error: Error) -> OpenFault
     OpenFault::from(fault(error))
 }
 
-// If meta cannot be asked for its version, it is another program's.
+// If meta cannot be queried for its version, it is another program's.
 pub(crate) fn version_fault(error: Error) -> OpenFault
     ensures { result ≡ unasked error }
 {
@@ -272,17 +272,23 @@ impl<S: Alter> Store<S> {
 }
 
 impl<S: Start> Store<FileStore<FileFrom<S>>> {
-    /// Opens the database file at a path, or makes it, and adopts it as `open_files` does. `start` stands for what the
-    /// files hold, and states what a torn write may leave. Returns the store, and whether its tables were made now.
+    /// Opens the database file at a path, or makes it if it is missing and may be made, and adopts it as `open_files`
+    /// does. `start` stands for what the files hold, and states what a torn write may leave. Returns the store, and
+    /// whether its tables were made now.
     /// After a fault the files were not opened, or what they held was not adopted and a crash may leave what
     /// `open_files` states. `NotOurs` is returned only for what was opened. A new file is its owner's alone, and a
     /// refused opening leaves no file that it made and nobody needs.
-    pub fn open_at(rt: &HostRuntime, path: &str, start: S) -> Result<(Self, bool), NotOpened>
+    pub fn open_at(
+        rt: &HostRuntime,
+        path: &str,
+        start: S,
+        if_missing: IfMissing,
+    ) -> Result<(Self, bool), NotOpened>
         ensures opened { IfOk result (λ opened. IsOpenedAt (image_at S.Start) opened.1 opened.0) }
         ensures failed { IfErr result (λ refused. IsNotOpened ⟦<FileFrom<S> as Disk>⟧ IsFresh (image_at S.Start)
             refused.fault) }
     {
-        let site = match prepare(rt, path) {
+        let site = match prepare(rt, path, if_missing) {
             Ok(site) => site,
             Err(error) => return Err(NotOpened::by_system(error)),
         };
@@ -317,13 +323,13 @@ impl<S: Start> Store<FileStore<FileFrom<S>>> {
 
 impl Store<FileStore<FileFrom<Wary>>> {
     /// Opens the database file at a path, or makes it. A torn write may leave any bytes, so each commit syncs twice.
-    /// The clauses are about a file that is new, for which `Wary` stands; what is found in one that is not, `open_at`
-    /// states, for any contents.
+    /// The clauses are about a new file, for which `Wary` stands; for any other contents, `open_at` states what is
+    /// found.
     pub fn open_from(rt: &HostRuntime, path: &str) -> Result<Self, OpenFault>
         ensures opened { IfOk result (λ store. (made : Bool) × IsOpenedAt new_files made store) }
         ensures failed { FailsAtPath IsFresh new_files result }
     {
-        match Store::open_at(rt, path, Wary) {
+        match Store::open_at(rt, path, Wary, IfMissing::Make) {
             Ok((store, _)) => Ok(store),
             Err(refused) => Err(refused.fault),
         }

@@ -20,12 +20,13 @@ use sqlite::{Alter, Connection, FileStore, Files, Options, Start};
 use sqlite_disk::Disk;
 use std::alloc::Global;
 
-/// The log of a copy is never read again, so its pages need no number to tell them from those of an earlier one.
+/// The log of a copy is never read again, so its pages need no number that distinguishes them from those of an earlier
+/// one.
 const SALT: u64 = 0;
 
 impl<S: Alter> Store<S> {
-    /// Adopts a connection to tables of this version, and changes nothing. Others are `NotOurs`, with the version that
-    /// they name, or with 0. A fault returns the connection.
+    /// Adopts a connection to tables of this version, and changes nothing. Other tables are `NotOurs`, with the version
+    /// that they name, or with 0. A fault returns the connection.
     pub(crate) fn read_files(
         alloc: Global,
         mut conn: Connection<S>,
@@ -64,8 +65,8 @@ impl<S: Alter> Store<S> {
 
 impl<S: Start> Store<FileStore<CopyFrom<S>>> {
     /// Opens the database file at a path to read its tables: the file and its log are read whole, and what they hold is
-    /// opened in memory. On the disk nothing is made or changed, so it is enough to be allowed to read. `start` stands
-    /// for what the files hold. A file that is empty, or of one byte, is refused before it is opened: it is `NotOurs`.
+    /// opened in memory. On the disk nothing is made or changed, so permission to read suffices. `start` stands for
+    /// what the files hold. A file that is empty, or of one byte, is refused before it is opened: it is `NotOurs`.
     pub fn open_to_read(rt: &HostRuntime, path: &str, start: S) -> Result<Self, NotOpened>
         ensures found { IfOk result (IsFoundAt (image_at S.Start)) }
         ensures failed { IfErr result (λ refused. IsNotRead ⟦<CopyFrom<S> as Disk>⟧ IsAsRead (image_at S.Start)

@@ -1,4 +1,4 @@
-//! What a store holds that was closed and is opened again: a law, as what the two calls ensure one after the other.
+//! What a store holds after it was closed and is opened again: a law, as what the two calls ensure one after the other.
 ghost use Rattle.std.specs.Prelude.{IfSome};
 ghost use Rattle.opc_store.specs.Reopening.{IsFoundAgain};
 

@@ -37,7 +37,7 @@ use sqlite::{Alter, Connection, MemStore};
 use std::alloc::Global;
 use std::marker::Model;
 
-/// The tables, outside any transaction, and the memory that an answer to a search takes.
+/// The tables, outside any transaction, and the allocator for the answers of searches.
 pub struct Store<S: Alter> {
     pub(crate) conn: Connection<S>,
     pub(crate) alloc: Global,
@@ -86,7 +86,7 @@ impl Store<MemStore> {
     }
 }
 
-// Calls for those who use the store as a library. The gate loads through `Tables`.
+// Calls for programs that use the store as a library. The gate loads through `Tables`.
 impl<S: Alter> Store<S> {
     /// The connection to the tables, outside any transaction. `open_files` adopts it again.
     pub fn into_connection(self) -> Connection<S>
@@ -117,8 +117,8 @@ impl<S: Alter> Store<S> {
         active_on(&mut self.conn, class)
     }
 
-    /// The policy and the consoles, as the rows of a policy file. This is what `Gate::export` gives, for those who have
-    /// no gate.
+    /// The policy and the consoles, as the rows of a policy file. This is what `Gate::export` gives, for callers
+    /// without a gate.
     pub fn policy_rows(&mut self, alloc: Global) -> Result<Vec<Row>, StoreFault>
         ensures found { Finds S.Store self.old self.new result (λ s v. v.items ≡ rows_of s.policy s.board.consoles) }
         ensures keeps { Looks S.Store self.old self.new result }

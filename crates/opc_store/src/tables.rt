@@ -54,7 +54,7 @@ use sqlite::Alter;
 use std::alloc::Global;
 
 impl<S: Alter> Store<S> {
-    /// Asks the cheapest question. A store that a fault closed fails here, before anything is begun, so that a crash
+    /// Makes the cheapest query. A store that a fault closed fails here, before anything is begun, so that a crash
     /// after it leaves nothing new.
     fn see_open(&mut self) -> Result<(), StoreFault>
         ensures keeps { Looks S.Store self.old self.new result }

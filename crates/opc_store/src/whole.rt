@@ -1,4 +1,4 @@
-//! The whole board, and the rows of a policy file, of the tables of several rooms.
+//! The whole board, and the rows of a policy file, from the tables of several crates.
 ghost use Rattle.std.specs.Prelude.{◌≡◌, false};
 ghost use Rattle.opc_store_sql.specs.Steps.{Looks};
 ghost use Rattle.opc_state.specs.PolicyFile.{rows_of};

@@ -11,7 +11,7 @@ use sqlite::Files;
 use sqlite_disk::{Crash, Disk};
 use std::alloc::Global;
 
-/// What comes of stores over files; the statements make tables of an older version.
+/// The outcome of stores over files; the statements make tables of an older version.
 pub fn answer(alloc: Global, older: &str, words: &str) -> Result<String> {
     match words {
         "log" => whole_changes(alloc, Stop::Log),
@@ -74,7 +74,7 @@ fn stopped<D: Disk + Drop>(alloc: Global, files: Files<D>) -> Result<(usize, Fil
     }
 }
 
-/// How many of two changes are acknowledged.
+/// Two changes, and how many of them are acknowledged.
 struct Acknowledged;
 
 impl StoreWork for Acknowledged {
@@ -112,7 +112,7 @@ impl StoreWork for Held {
     }
 }
 
-/// What a store holds that was closed and opened again after one change.
+/// What a store holds after one change, once it was closed and opened again.
 fn opened_again<D: Disk + Drop>(alloc: Global, files: Files<D>) -> Result<String> {
     let (changed, files) = worked(alloc, files, &Changed);
     changed.context("not opened")??;
@@ -120,7 +120,7 @@ fn opened_again<D: Disk + Drop>(alloc: Global, files: Files<D>) -> Result<String
     held.context("not opened again")?
 }
 
-/// One change, acknowledged.
+/// One change, and whether it is acknowledged.
 struct Changed;
 
 impl StoreWork for Changed {

@@ -8,7 +8,7 @@ use sqlite::{Connection, FileStore, Files, Options};
 use sqlite_disk::{Crash, Disk, Fuse, Memory};
 use std::alloc::Global;
 
-/// What stops while it is written to.
+/// Which file stops while it is written to.
 #[derive(Clone, Copy)]
 pub enum Stop {
     Log,
@@ -93,15 +93,15 @@ pub fn opened<D: Disk + Drop>(
     }
 }
 
-/// What is done with the tables of a store.
+/// An operation on the tables of a store.
 pub trait StoreWork {
     type Out: Drop;
 
     fn over<T: Tables>(&self, alloc: Global, tables: &mut T) -> Self::Out;
 }
 
-/// What a work with a store over files comes to, if the store opens, and the files. The store is never dropped: the
-/// drop would be proved at each end of a function.
+/// The outcome of an operation on a store over files, if the store opens, and the files. The store is never dropped:
+/// the drop would be proved at each end of a function.
 pub fn worked<D: Disk + Drop, W: StoreWork>(
     alloc: Global,
     files: Files<D>,

@@ -1,10 +1,11 @@
-//! Cases of the store that no other program can see: loads by key and what they read, edits that no request makes,
-//! disks that stop, readers and writers that fail, and names that are cached.
+//! Cases of the store that no other program can show, apart from `opc_cases`, since this program is generic over tables
+//! and gates, and takes longer to compile: loads by key and what they read, edits that no request makes, disks that
+//! stop, readers and writers that fail, and names that are cached.
 //!
-//! Each line of the input is printed again, and after it what comes of it, two spaces in. The lines, besides those that
-//! `opc_store_trials` and `opc_http_trials` have:
+//! Each line of the input is printed again, and after it the outcome, indented by two spaces. The lines, besides those
+//! that `opc_store_trials` and `opc_http_trials` have:
 //!
-//! - `# TEXT`, and an empty line: nothing comes of it.
+//! - `# TEXT`, and an empty line: no outcome.
 //! - `base RECORD`: one more row of the base policy, written as in a policy file.
 //! - `new`: new tables in memory. `new base`: such tables with the base policy, and a row of the account.
 //! - `limit STEPS`: a limit on the steps of each later query.
@@ -14,8 +15,8 @@
 //!   `search first NAME`: the first pattern in order that covers, and the profiles that were read. `search read NAME`:
 //!   the profiles that were read, alone.
 //! - `older STATEMENT`: one more statement that makes the tables of an older version; `\n` stands for a line end.
-//! - `disk WORDS`: tables over files in memory, most of which stop. Such a case cannot distinguish refused memory from
-//!   the stop that it tests.
+//! - `disk WORDS`: tables over files in memory, most of which stop. Such a case cannot distinguish a failed
+//!   allocation from the stop that it tests.
 //! - `http LINE`: a line of `opc_http_trials`. `http new`: a new gate, over new tables in memory.
 #![tactic(auto)]
 

@@ -45,7 +45,7 @@ const NEW: [&str; 2] = [
 ];
 
 /// Whether each stop of an opening, after one more call each time, leaves the old rows or the new ones, up to one that
-/// was done; and the new ones, as an opening leaves them that nothing stops.
+/// succeeded; and the new ones, as an opening that nothing stops leaves them.
 pub fn older_tables(alloc: Global, statements: &str, stop: Stop) -> Result<String> {
     let old = rows_in(alloc, made(alloc, statements)?)?;
     let (new, _) = trial(alloc, stopping(made(alloc, statements)?, Stop::Nothing, 0))?;
@@ -62,13 +62,13 @@ pub fn older_tables(alloc: Global, statements: &str, stop: Stop) -> Result<Strin
     bail!("never new tables")
 }
 
-/// The rows that a crash leaves after an opening, and whether the opening was done.
+/// The rows that a crash leaves after an opening, and whether the opening succeeded.
 fn trial<D: Crash + Drop>(alloc: Global, files: Files<D>) -> Result<(String, bool)> {
     let (done, files) = tried(alloc, files);
     Ok((rows_in(alloc, crashed(files))?, done))
 }
 
-/// Whether an opening was done, and the files.
+/// Whether an opening succeeded, and the files.
 fn tried<D: Disk + Drop>(alloc: Global, files: Files<D>) -> (bool, Files<D>) {
     match opened(alloc, files) {
         Ok(store) => (true, closed(store)),

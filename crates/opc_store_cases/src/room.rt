@@ -3,7 +3,7 @@ use crate::disks;
 use crate::memory::Fresh;
 use crate::searches::searched;
 use anyhow::{Context, Result};
-use opc_http_trials::room::Room as Exchanges;
+use opc_http_trials::room::TrialRoom;
 use opc_state::change::Edit;
 use opc_store_trials::edits::{after_each, committed, edit_in, fill, many};
 use opc_store_trials::loads::loaded;
@@ -18,7 +18,7 @@ pub struct StoreRoom<T: Fresh> {
     base: String,
     edits: Vec<Edit>,
     older: String,
-    exchanges: Exchanges<T>,
+    exchanges: TrialRoom<T>,
 }
 
 impl<T: Fresh> StoreRoom<T> {
@@ -29,11 +29,11 @@ impl<T: Fresh> StoreRoom<T> {
             base: String::from_str(alloc, HEADER)?,
             edits: Vec::new(alloc),
             older: String::new(alloc),
-            exchanges: Exchanges::new(alloc)?,
+            exchanges: TrialRoom::new(alloc)?,
         })
     }
 
-    /// What comes of a line.
+    /// The outcome of a line.
     pub fn answer(&mut self, alloc: Global, line: &str) -> Result<String> {
         let (verb, words) = line.split_once(' ').unwrap_or((line, ""));
         match verb {

@@ -10,8 +10,8 @@ use opc_store_trials::searches::{
 };
 use std::alloc::Global;
 
-/// Whether a search over the tables gives what one over a policy in memory gives; otherwise both. Of some, what is
-/// found and counted.
+/// Whether a search over the tables gives what one over a policy in memory gives; otherwise both results. For some
+/// words, what is found and counted.
 pub fn searched<T: Fresh>(
     alloc: Global,
     tables: &mut T,
@@ -85,8 +85,8 @@ fn found_with_list<T: Fresh>(alloc: Global, tables: &mut T, name: &Resource) -> 
     Ok(lines)
 }
 
-/// The pattern that decides, how many heads were searched, and how many profiles read: of the store as a source of
-/// profiles, and of the tables, which say the same.
+/// The pattern that decides, how many heads were searched, and how many profiles read: by the store as a source of
+/// profiles, and by the tables, which agree.
 fn counts<T: Fresh>(alloc: Global, tables: &mut T, name: &Resource) -> Result<String> {
     let found = tables.search_for(Class::Opercmds, name)?;
     let asked = tables.find_deciding(alloc, Class::Opercmds, name)?;

@@ -53,14 +53,14 @@ impl<S: Start> Disk for CopyFrom<S> {
 
     ghost seen = { bytes_held };
 
-    // No crash is survived, so none leaves anything but what is there.
+    // Nothing here survives a crash, so none leaves anything but what is there.
     ghost may_leave = { λ c bytes. bytes ≡ bytes_held c };
 
     ghost is_usable = { λ _. true };
 
     ghost faults = { λ c. c.faults };
 
-    // What was read counts as the file's if it is what `S` states.
+    // What was read counts as the file's, if it is what `S` states.
     ghost is_clean = { is_faithful S.Start };
 
     ghost tally_of = { λ c. record { caught = c.caught; refused = 0 } };
@@ -165,7 +165,7 @@ fn count(outcome: Result<(), AllocError>, faults: &mut u64) -> io::Result<()>
     Ok(())
 }
 
-/// What it holds, to be written to: from now on that counts, and not what was read.
+/// What it holds, to be written to: from now on this counts, and not what was read.
 fn start_writing(read: &Vec<u8>, written: &mut Option<Vec<u8>>) -> Result<Vec<u8>, AllocError>
     ensures held { IfOk result (λ bytes. bytes.items ≡ held_over written.old read.now.items) }
     ensures err { OnErr result (written.new ≡ written.old) }

@@ -1,12 +1,12 @@
-//! Reads a database file and its log whole, to be opened in memory. On the disk nothing is made or changed, so it is
-//! enough to be allowed to read: in a folder that cannot be written, on a disk that is full or read-only.
+//! Reads a database file and its log whole, to be opened in memory. On the disk nothing is made or changed, so
+//! permission to read suffices: also in a folder that cannot be written, and on a disk that is full or read-only.
 ghost use Rattle.std.specs.Prelude.{◌≡◌, Err, IfOk, IsTrue, false, true};
 ghost use Rattle.opc_store_file.specs.Copies.{IsAsRead};
 ghost use Rattle.opc_store_file.specs.Site.{means_no_file};
 ghost use Rattle.opc_store_file.specs.declared.copying.NotCopied.TheVariants.{NoPath};
 
 use crate::copy::CopyFrom;
-use crate::site::{LOCK_BYTES, is_same, means_no_file};
+use crate::site::{LOCK_BYTES, is_same, means_no_file, unfound};
 use os::RangeLock;
 use sqlite_disk::{Files, Start};
 use std::alloc::AllocError;
@@ -16,7 +16,7 @@ use std::os::fd::AsRawFd;
 use std::os::unix::fs::{FileExt, MetadataExt};
 use std::{fs, io};
 
-/// Why a database file is not read.
+/// Why a database file cannot be read.
 #[derive(Clone, Copy, Debug)]
 pub enum NotCopied {
     System(io::Error),
@@ -44,7 +44,8 @@ impl From<AllocError> for NotCopied {
 }
 
 /// Reads the database file at a path and its log, which may be missing. `S` stands for what they hold. The system's
-/// calls promise nothing about files, so no clause states that these bytes are theirs: `tools/program readers` tries it.
+/// calls promise nothing about files, so no clause states that these bytes are theirs: `tools/program readers` tests
+/// it.
 pub fn copy_files<S: Start>(
     rt: &HostRuntime,
     path: &str,
@@ -64,9 +65,12 @@ pub fn copy_files<S: Start>(
     })
 }
 
-/// The bytes of the database file and of its log, as they are at one moment.
+/// The bytes of the database file and of its log, as they are at one point in time.
 fn read_both(rt: &HostRuntime, path: &str) -> Result<(Vec<u8>, Vec<u8>), NotCopied> {
-    let database = fs::canonicalize(rt, path)?;
+    let database = match fs::canonicalize(rt, path) {
+        Ok(database) => database,
+        Err(error) => return Err(NotCopied::System(unfound(rt, path, error))),
+    };
     let (file, found) = open_locked(rt, database.as_str())?;
     let journal = format!(in rt.alloc(); "{}-journal", database.as_str())?;
     if has_journal(rt, journal.as_str())? {
@@ -85,7 +89,7 @@ fn read_both(rt: &HostRuntime, path: &str) -> Result<(Vec<u8>, Vec<u8>), NotCopi
 }
 
 /// Opens a plain file of one name, and locks it as SQLite does. If it may be written, nobody else may have it open. If
-/// it may only be read, nobody may write it who asks for SQLite's locks, unless by a log that is shared.
+/// it may only be read, no process that takes SQLite's locks may write it, unless through a log that is shared.
 fn open_locked(rt: &HostRuntime, path: &str) -> Result<(File, Metadata), NotCopied> {
     let named = fs::symlink_metadata(rt, path)?;
     if !named.is_file() {
@@ -142,7 +146,7 @@ fn bytes_in(rt: &HostRuntime, file: &File) -> Result<Vec<u8>, NotCopied> {
     Ok(bytes)
 }
 
-/// Whether nobody wrote the file between two looks at it.
+/// Whether nobody wrote the file between two observations of it.
 fn is_unchanged(one: &Metadata, other: &Metadata) -> bool {
     one.len() == other.len()
         && one.mtime() == other.mtime()

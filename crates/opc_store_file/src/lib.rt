@@ -1,5 +1,5 @@
-//! The files of a database: one that is made is its owner's alone, and a refused opening removes what nobody needs. One
-//! that is only asked is read into memory.
+//! The files of a database: a new one is its owner's alone, and a refused opening removes what nobody needs. A file
+//! that is only queried is read into memory.
 #![tactic(auto)]
 
 pub mod copy;

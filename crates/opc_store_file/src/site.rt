@@ -3,7 +3,7 @@ ghost use Rattle.std.specs.Prelude.{◌≡◌, IfOk};
 ghost use Rattle.std.specs.Option.{is_none};
 ghost use Rattle.opc_store_file.specs.Site.{means_no_file};
 
-use crate::spare::{Prior, is_spare_database, is_spare_log};
+use crate::spare::{Prior, has_page, is_spare_database, is_spare_log};
 use os::RangeLock;
 use std::fs::{File, Metadata, OpenOptions};
 use std::io::ErrorKind;
@@ -17,6 +17,18 @@ const OWNER_ALONE: u32 = 0o600;
 
 /// The bytes of a database file that SQLite locks, and how many they are.
 pub(crate) const LOCK_BYTES: (u64, u64) = (1 << 30, 512);
+
+/// Why no database takes the place of one whose log is still there.
+const MOVED: &str = "missing, but its log (-wal) is there; move the log along, or remove it";
+
+/// What an opening does if there is no file.
+#[derive(Clone, Copy, Debug, PartialEq, Eq)]
+pub enum IfMissing {
+    /// It makes one.
+    Make,
+    /// It is refused.
+    Refuse,
+}
 
 /// Where a database file and its log lie, with no link in their paths, and what was there.
 #[derive(Drop)]
@@ -33,16 +45,20 @@ pub fn means_no_file(path: &str) -> bool
     path == ":memory:" || path.as_bytes().starts_with(b"file:")
 }
 
-/// Looks at what is at a path, and makes the database file if nothing is. It is empty then, and its owner's alone; the
-/// log that SQLite makes beside it gets the same mode. None if the path means no file. The system's calls promise
-/// nothing about files, so no further clause does: `tools/databases` tries the modes, and what stands there.
-pub fn prepare(rt: &HostRuntime, path: &str) -> io::Result<Option<Site>>
+/// Looks at what is at a path, and makes the database file if nothing is and it may be made. It is empty then, and its
+/// owner's alone; the log that SQLite makes beside it gets the same mode. None if the path means no file. None is made
+/// beside the log of another one. The system's calls promise nothing about files, so no further clause does:
+/// `tools/databases` tries the modes, and what stands there.
+pub fn prepare(rt: &HostRuntime, path: &str, if_missing: IfMissing) -> io::Result<Option<Site>>
     ensures { IfOk result (λ site. is_none site ≡ means_no_file path.now) }
 {
     if means_no_file(path) {
         return Ok(None);
     }
-    let is_made = is_missing(rt, path)? && make(rt, path)?;
+    let is_made = match fs::metadata(rt, path) {
+        Ok(_) => false,
+        Err(error) => make_missing(rt, path, if_missing, error)?,
+    };
     match Site::at(rt, path, is_made) {
         Ok(site) => Ok(Some(site)),
         Err(error) => {
@@ -54,16 +70,43 @@ pub fn prepare(rt: &HostRuntime, path: &str) -> io::Result<Option<Site>>
     }
 }
 
-/// Whether no file is there.
-fn is_missing(rt: &HostRuntime, path: &str) -> io::Result<bool> {
-    match fs::metadata(rt, path) {
-        Ok(_) => Ok(false),
-        Err(error) if error.kind() == ErrorKind::NotFound => Ok(true),
-        Err(error) => Err(error),
+/// Makes the file that the system does not find, if it may be made. Returns whether it did.
+fn make_missing(
+    rt: &HostRuntime,
+    path: &str,
+    if_missing: IfMissing,
+    error: io::Error,
+) -> io::Result<bool> {
+    let may_be_made = error.kind() == ErrorKind::NotFound && if_missing == IfMissing::Make;
+    if !may_be_made || has_left_log(rt, path)? {
+        return Err(unfound(rt, path, error));
+    }
+    make(rt, path)
+}
+
+/// Why the system does not find a file. If it is missing beside a log, that is more than the system says.
+pub(crate) fn unfound(rt: &HostRuntime, path: &str, error: io::Error) -> io::Error {
+    if error.kind() != ErrorKind::NotFound {
+        return error;
+    }
+    match has_left_log(rt, path) {
+        Ok(true) => io::Error::new(ErrorKind::NotFound, MOVED),
+        Ok(false) => error,
+        Err(no_memory) => no_memory,
     }
 }
 
-/// Makes the file, unless something is there by now. Nobody else may read it at any moment.
+/// Whether there is a log with a page in it beside the path.
+fn has_left_log(rt: &HostRuntime, path: &str) -> io::Result<bool> {
+    let log = format!(in rt.alloc(); "{}-wal", path)?;
+    match fs::symlink_metadata(rt, log.as_str()) {
+        Ok(found) => Ok(found.is_file() && has_page(found.len())),
+        // What the system does not show is no log.
+        Err(_) => Ok(false),
+    }
+}
+
+/// Makes the file, unless something is there by now. Nobody else may read it at any time.
 fn make(rt: &HostRuntime, path: &str) -> io::Result<bool> {
     let made = OpenOptions::new()
         .read(true)
@@ -78,7 +121,7 @@ fn make(rt: &HostRuntime, path: &str) -> io::Result<bool> {
     }
 }
 
-/// Whether something is there. If the system does not say, it counts as there, and is left alone.
+/// Whether something is there. If that is unknown, it counts as there, and is left alone.
 fn is_there(rt: &HostRuntime, path: &str) -> bool {
     match fs::symlink_metadata(rt, path) {
         Err(error) => error.kind() != ErrorKind::NotFound,
@@ -103,8 +146,8 @@ impl Site {
     }
 
     /// Removes what a refused opening left and nobody needs. The opening has closed the files by now; nothing is
-    /// removed if another program has them open. There is no clause: the system's calls promise nothing about
-    /// files. `is_spare_database` and `is_spare_log` decide what is removed, and `tools/databases` tries it.
+    /// removed if another program has them open. There is no clause: the system's calls promise nothing about files.
+    /// `is_spare_database` and `is_spare_log` decide what is removed, and `tools/databases` tests it.
     pub fn tidy(&self, rt: &HostRuntime) {
         let (database, log) = (self.database.as_str(), self.log.as_str());
         let Some((file, length)) = locked(rt, database) else {

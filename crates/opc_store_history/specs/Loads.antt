@@ -1,4 +1,4 @@
--- What some loads give of a state.
+-- What some loads return of a state.
 use Rattle.std.specs.Prelude.{ℕ, pos, ◌-◌, ◌==◌, List, ◌∷◌, Option, find, take, drop}
 use Rattle.std.specs.Option.{option_map}
 use Rattle.sqlite_value.specs.declared.value.Value.TheVariants.{Int}

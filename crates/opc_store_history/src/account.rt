@@ -1,4 +1,5 @@
-//! The table of the account.
+//! The table of the account, numbered by SQLite's rowid: one more row neither scans nor reads those that are there, and
+//! a page reads only its own rows. The histories are numbered likewise.
 ghost use Rattle.std.specs.Prelude.{◌≡◌, ◌-◌, ◌^◌, ℕ, false, pos, min, map, List, IfOk};
 ghost use Rattle.opc_store_sql.specs.Steps.{Stays, Looks};
 ghost use Rattle.opc_store_schema.specs.Asked.{Finds, Makes};

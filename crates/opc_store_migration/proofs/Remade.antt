@@ -1,4 +1,4 @@
--- The last tables come again, without rows.
+-- The last tables are made again, without rows.
 use Rattle.std.proofs.Common.{◌++◌}
 use Rattle.sqlite.specs.Effect.{Database}
 use Rattle.opc_store_sql.specs.Rows.{HasTables}

@@ -1,4 +1,4 @@
--- The version is set, and the batches go.
+-- The version is set, and the batches are removed.
 use Rattle.std.proofs.Common.{◌≡◌, ℕ, List, [], ◌∷◌, map, filter, not, codes, true, false, Ok, refl, sym, subst, ◌∙◌}
 use Rattle.sqlite.specs.Order.{Row}
 use Rattle.sqlite.specs.Term.{col}

@@ -38,8 +38,9 @@ fn transact<S: Alter>(conn: &mut Connection<S>, puts: &MigrationEdits) -> Result
 }
 
 /// Turns tables of version 1 or 2 into those of version 3, of the same state. If it fails, they are as they were, and a
-/// crash leaves the old tables or the new ones, whole. The policy and the stored batches are read into memory; the
-/// account and the histories stay where they are.
+/// crash leaves the old tables or the new ones, whole. The policy and the stored batches are read into memory, since
+/// the kit has no ALTER TABLE, and `INSERT .. SELECT` could not compute sort keys and heads; the account and the
+/// histories stay where they are.
 pub fn migrate_on<S: Alter>(conn: &mut Connection<S>) -> Result<(), StoreFault>
     requires { conn.old.in_transaction ≡ false }
     ensures mode { conn.new.in_transaction ≡ false }

@@ -23,7 +23,7 @@ use Rattle.opc_store_old_tables.specs.Tables.{Older}
 use Rattle.opc_store_old_tables.specs.Old.{RepresentsOld}
 pub use Rattle.opc_store_old_tables.specs.Old.{AreSaid}
 
--- on a clean disk a success answers this of the state that the tables represented before
+-- on a clean disk a success returns this of the state that the tables represented before
 abbrev pub FindsOld : {S : Type 0} → Ghosts S → {V E : Type 0} → Held S → Held S → Result V E → (State → V → Type 0)
     → Type 0
 FindsOld g old new result asked =

@@ -49,7 +49,7 @@ module _ (s : State) (class : Class) (pattern : List ℕ) (p : Profile) (it : Sp
   abbrev pub after : List Profile
   after = with_profile (listing class pattern s.policy.profiles p it change) s.policy.profiles
 
-  -- the profiles' own rows are the same, so it is the entries alone that have to come
+  -- the profiles' own rows are the same, so only the entries must be put
   pub same_contents : contents_of (with_profiles after s) ≡ record (contents_of s) { entries = flat_map entry_rows after }
   same_contents = ap (λ (l : List Row). let c : Contents = record (contents_of s) {
     profiles = l;

@@ -318,7 +318,7 @@ module _ (old new : SqlState) (count : ℕ) (s : State) (class : Class) (pattern
         new.now
     entry_missed none = spares_entries (contents_of s) old.now new.now was it.spares _ (none_of _ _ (sym counted ∙ none) both)
 
-  -- ---- it comes: then its profile is there, or the database would not have taken it
+  -- ---- it is added: then its profile is there, or the database would not have taken it
 
   module _ (was : IsMade (record (contents_of s)
       { entries = filter (λ v. not (has_entry class pattern e.id (or_empty e.when) v)) (flat_map entry_rows ps) })

@@ -1,4 +1,4 @@
--- Profiles by their keys, and what rows of profiles that go set off.
+-- Profiles by their keys, and what the removal of rows of profiles sets off.
 use Rattle.std.proofs.Common.{◌≡◌, inl, inr, ℕ, List, [], ◌∷◌, map, ◌&&◌, drop, Bool, true, false, refl, sym, ap, ◌∙◌, IsPermutation}
 use Rattle.std.specs.List.{list_any, AllByRecursion}
 use Rattle.std.proofs.lemmas.Bool.{cases_Bool}

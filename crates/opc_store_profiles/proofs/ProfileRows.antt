@@ -190,7 +190,7 @@ module _ (old new : SqlState) (count : ℕ) (s : State) (class : Class) (pattern
 
 -- ---- a profile is put
 
--- if each row that goes is replaced, nothing acts
+-- if each row that is removed is replaced, no foreign key acts
 idle_update : (olds news : List Row) → (length news == 0) ≡ false → works the_schema Enforced 0 profiles_at.tree olds news ≡ []
 unfolding same_name joined
 idle_update olds news some = go (length news == 0) some
@@ -296,7 +296,7 @@ module _ (old new : SqlState) (count : ℕ) (s : State) (x : Profile) where
             (all_weaker _ _ (λ p miss. picks_profile x.class x.pattern p ∙ miss) ps lack) in
             ap₂ (λ (a b : List Row). map (λ (v : Row). profile_row x) a ++ b) (filter_none _ _ lack_rows) (keeps_all _ _ lack_rows)
 
-  -- it comes, and its access list is still to come
+  -- it is added, and its access list is still to come
   pub profile_added : Tabulates old.now s → Executes insert_profile (profile_row x) old new (Ok count)
       → IsMade (record (contents_of s) { profiles = profile_row x ∷ map profile_row ps }) new.now
   profile_added was h =

@@ -1,4 +1,4 @@
--- By what a search asks for the row of a profile.
+-- By which columns a search looks up the row of a profile.
 use Rattle.std.specs.Prelude.{◌≡◌, Bool, true, false, ◌&&◌, ℕ, List}
 use Rattle.std.specs.List.{AllByRecursion}
 use Rattle.std.specs.Str.{bytes_eq}

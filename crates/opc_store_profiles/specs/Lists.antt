@@ -12,7 +12,7 @@ use Rattle.opc_store_sql.specs.Order.{text_cmp}
 use Rattle.opc_store_schema.specs.Represented.{entry_rows}
 use Rattle.opc_store_schema.specs.State.{IsAccessList}
 
--- a text; what is not one reads as the empty one
+-- a text; what is not one is read as the empty one
 abbrev pub text_of : Value → List ℕ
 text_of (Text text) = text
 text_of other = []

@@ -183,7 +183,7 @@ pub fn entries_in(alloc: Global, rows: &[Row]) -> Result<Entries, StoreFault>
     ensures { (class : TheClass) → (pattern : List ℕ) → (entries : List TheEntry) → IsAccessList entries
         → rows.now ≡ map (entry_row class pattern) entries → IfOk result (λ v. v ≡ entries) }
 {
-    // For the prover alone, which needs the type of an entry's console named.
+    // Named for the prover, which otherwise cannot infer the type of an entry's console.
     let _nowhere: Option<ConsoleName> = None;
     let mut entries = Entries::new(alloc);
     for row in rows {

@@ -41,7 +41,7 @@ use sqlite::types::ValueRef;
 use sqlite::{Alter, Connection, Error, Row, Transaction, params};
 use std::alloc::Global;
 
-/// Sets what is there of a profile except its access list, and returns how many there were.
+/// Sets all columns of a profile except its access list, and returns how many there were.
 fn update_profile<S: Alter>(tx: &mut Transaction<'_, S>, profile: &Profile) -> Result<usize, Error>
     ensures same_reference { tx.new.conn.ghost_name ≡ tx.old.conn.ghost_name }
     ensures stays { Stays S.Store tx.old.conn.now tx.new.conn.now result }
@@ -172,6 +172,7 @@ fn has_key(row: &Row, key: &[u8]) -> bool
 {
     match row.get_ref(5) {
         Ok(ValueRef::Blob(bytes)) => bytes == key,
+        // Only a blob is a key.
         _ => false,
     }
 }
@@ -181,6 +182,7 @@ fn has_head(row: &Row, head: &str) -> bool
 {
     match row.get_ref(6) {
         Ok(ValueRef::Text(text)) => text == head.as_bytes(),
+        // Only a text is a head.
         _ => false,
     }
 }
@@ -270,11 +272,11 @@ fn see_each(alloc: Global, rows: &[Row]) -> Result<(), StoreFault>
     Ok(())
 }
 
-/// Every profile. A constant that its lemmas read, so that a text which leaves one out is refused by what it means.
+/// Every profile. A constant that its lemmas read, so that the prover refuses a text that leaves a profile out.
 const EVERY: &str = "SELECT class, pattern, owner, uacc, warning, skey, head FROM profiles";
 
-/// Reads each profile: a search by heads might pass over one that has another head than its pattern, and any search
-/// would pass over one of another class.
+/// Reads each profile: a search by heads might skip one whose head is not that of its pattern, and any search would
+/// skip one of another class.
 pub fn see_profiles_on<S: Alter>(alloc: Global, conn: &mut Connection<S>) -> Result<(), StoreFault>
     requires { conn.old.in_transaction ≡ false }
     ensures mode { conn.new.in_transaction ≡ false }

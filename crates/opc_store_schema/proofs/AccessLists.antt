@@ -184,7 +184,7 @@ module _ (class : Class) (pattern : List ℕ) where
           ∙ (ap (λ (l : List Row). flat_map entry_rows it.prefix ++ (l ++ flat_map entry_rows it.back)) same_list
           ∙ (sym (flat_map-append entry_rows it.prefix (p ∷ it.back)) ∙ ap (flat_map entry_rows) (sym it.whole))))
 
-      -- its row comes in the place of the one that was there
+      -- its row replaces the one that was there
       pub profile_replaced : IsPermutation
           (map (λ (v : Row). profile_row x) (filter (has_profile class pattern) (map profile_row ps))
           ++ filter (λ v. not (has_profile class pattern v)) (map profile_row ps))
@@ -204,7 +204,7 @@ module _ (class : Class) (pattern : List ℕ) where
           IsPermutation-trans _ _ _ (IsPermutation-same _ _ both)
           (IsPermutation-trans _ _ _ middle (IsPermutation-same _ _ (ap (map profile_row) (sym replaced_here))))
 
-    -- if it is not there, it comes in
+    -- if it is not there, it is added
     module _ (differ : KeysDiffer) (valid : IsPattern x.pattern)
         (patterns : AllByRecursion (λ (p : Profile). IsPattern p.pattern) ps)
         (absent : profile_of ps class pattern ≡ None) where
@@ -298,7 +298,7 @@ module _ (class : Class) (pattern : List ℕ) where
           ∙ ap₂ (λ (a b : List Row). a ++ b) mine (filter_none has _ (lack_entry it.back it.after)))
           ∙ append-nil _))
 
-      -- and the others are left
+      -- and the others stay
       pub entries_rest : filter (λ v. not (has_entry class pattern id console v)) (flat_map entry_rows ps)
           ≡ flat_map entry_rows it.prefix
           ++ (map (entry_row p.class p.pattern) (filter (λ (e : Entry). not (is_at id console e)) p.entries)

@@ -1,4 +1,4 @@
--- Values and rows say what they are of.
+-- Values and rows determine what they are of.
 use Rattle.std.proofs.Common.{◌≡◌, ◌≢◌, ℕ, ◌==◌, Bool, true, false, cond, List, [], ◌∷◌, map, codes, Option, Some, None, Ok, Err, Result, refl, ap₂}
 use Rattle.std.specs.List.{AllByRecursion}
 use Rattle.std.specs.Str.{bytes_eq}

@@ -1,4 +1,4 @@
--- What the statements do that fill new tables.
+-- What the statements that fill new tables do.
 use Rattle.std.proofs.Common.{◌≡◌, ℕ, List, [], ◌∷◌, drop, Bool, Ok, refl, ap₂}
 use Rattle.sqlite.specs.declared.types.Value.{Value}
 use Rattle.sqlite.specs.declared.types.Value.TheVariants.{Null}

@@ -1,4 +1,4 @@
--- What one call after another keeps, whatever is made of what the last one gave.
+-- What one call after another keeps, whatever is made of the last one's result.
 use Rattle.std.proofs.Common.{◌≡◌, ◌∙◌, Ok, Err, Result, OnOk, arith}
 use Rattle.std.specs.Result.{IsErr}
 use Rattle.sqlite_trees.specs.declared.store.Store.{Ghosts}

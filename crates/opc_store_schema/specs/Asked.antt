@@ -9,7 +9,7 @@ use Rattle.opc_store_schema.specs.Changes.{Becomes}
 use Rattle.opc_store_schema.specs.Represented.{Represents}
 
 module _ {S : Type 0} (g : Ghosts S) where
-  -- on a clean disk a success answers this of the state that the tables represented before
+  -- on a clean disk a success returns this of the state that the tables represented before
   abbrev pub Finds : {V E : Type 0} → Held S → Held S → Result V E → (State → V → Type 0) → Type 0
   Finds old new result asked = HasCleanDisk (state g new) → (s : State) → Represents (state g old).now s
       → IfOk result (asked s)

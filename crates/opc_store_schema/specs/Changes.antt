@@ -8,7 +8,7 @@ use Rattle.opc_terms.specs.declared.store_fault.StoreFault.TheVariants as fault
 use Rattle.opc_state.specs.State.{State}
 use Rattle.opc_store_schema.specs.Represented.{Represents}
 
--- the one database represents what the other does, with the change
+-- one database represents what the other does, with the change
 abbrev pub Becomes : (State → State) → Database → Database → Type 0
 Becomes change old new = (s : State) → Represents old s → Represents new (change s)
 

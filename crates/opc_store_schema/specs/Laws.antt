@@ -1,4 +1,4 @@
--- What it is to represent a state.
+-- What it means to represent a state.
 use Rattle.std.specs.Prelude.{◌≡◌}
 use Rattle.sqlite.specs.Effect.{Database}
 use Rattle.sqlite_trees.specs.Tree.{Trees}

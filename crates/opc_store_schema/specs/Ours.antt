@@ -33,11 +33,11 @@ abbrev pub number_of : Value → ℕ
 number_of (Int (pos n)) = n
 number_of _ = 0
 
--- The version that the rows of meta name: the whole number above 0 that the only one has, or otherwise 0.
+-- The version that the rows of meta name: the whole number above 0 that the only row has, or otherwise 0.
 abbrev pub version_of : List Row → ℕ
 version_of (row ∷ []) = number_of (column row 0)
 version_of _ = 0
 
--- asked for its version, the database names this one
+-- queried for its version, the database names this one
 abbrev pub NamesVersion : ℕ → State → State → Type 0
 NamesVersion version old new = (rows : List Row) × Shown version_query [] old new rows × (version_of rows ≡ version)

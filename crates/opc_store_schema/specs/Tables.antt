@@ -103,7 +103,7 @@ consoles_by_authority = index_of (codes "consoles_by_authority") (2 ∷ 4 ∷ 1 
 abbrev pub devices_by_unit : Index
 devices_by_unit = index_of (codes "devices_by_unit") (4 ∷ 1 ∷ [])
 
--- those that are as they were in the first version
+-- those that are the same in all versions
 abbrev pub lasting_tables : List Table
 lasting_tables =
     meta_table ∷ classes_table ∷ consoles_table ∷ units_table ∷ devices_table ∷ replies_table ∷ answered_table

@@ -19,7 +19,7 @@ use sqlite::types::{FromSql, ValueRef};
 use std::alloc::Global;
 use std::str;
 
-/// A column of a row, as what it is to be.
+/// A column of a row, as a value of this type.
 pub fn value_in<V: FromSql>(row: &Row, at: usize) -> Result<V, StoreFault>
     ensures { IfOk result (V.FromSql.reads_as (column row.now at)) }
 {
@@ -33,7 +33,7 @@ pub fn value_in<V: FromSql>(row: &Row, at: usize) -> Result<V, StoreFault>
 pub trait TableRow<M> {
     ghost row_of: { M → List TheValue };
 
-    /// What is kept in a row.
+    /// The member that is kept in a row.
     fn decode(row: &Row) -> Result<M, StoreFault>
         ensures { (x : M) → row.now ≡ row_of x → IfOk result (λ v. v ≡ x) };
 }

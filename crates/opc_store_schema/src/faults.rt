@@ -6,13 +6,13 @@ ghost use Rattle.opc_store_schema.specs.Changes.{fault_of};
 use opc_terms::store_fault::StoreFault;
 use sqlite::{Error, ErrorCode};
 
-/// Out of memory is distinguished from every other cause.
+/// The fault of the store: a failed allocation is distinguished from every other cause.
 pub fn fault(error: Error) -> StoreFault
     ensures { result ≡ fault_of error }
 {
     match error {
         Error::SqliteFailure(ErrorCode::OutOfMemory) => StoreFault::NoMemory,
-        // No other error means that memory was refused.
+        // No other error is a failed allocation.
         _ => StoreFault::Store,
     }
 }

@@ -17,7 +17,7 @@ use crate::version::VERSION;
 use opc_store_sql::{run, run_all};
 use sqlite::{Alter, Connection, Error, Transaction, params};
 
-/// The statements that make the tables which are as they were in the first version.
+/// The statements that make the tables that are the same in all versions.
 const LASTING_TABLES: [&str; 13] = [
     "CREATE TABLE meta (version INTEGER NOT NULL) STRICT",
     "CREATE TABLE classes (class TEXT NOT NULL PRIMARY KEY, active INTEGER NOT NULL) STRICT",
@@ -42,7 +42,9 @@ const LAST_TABLES: [&str; 4] = [
     "CREATE TABLE entries (class TEXT NOT NULL, pattern TEXT NOT NULL, id TEXT NOT NULL, console TEXT NOT NULL, level INTEGER NOT NULL, PRIMARY KEY (class, pattern, id, console), UNIQUE (id, class, pattern, console), FOREIGN KEY (class, pattern) REFERENCES profiles ON DELETE CASCADE) STRICT",
 ];
 
-/// The indexes that no key of a table implies.
+/// The indexes that no key of a table implies. By these, and by the keys `UNIQUE (owner, ..)` and `UNIQUE (id, ..)`,
+/// which exist only for look-ups, an index finds whatever names a user, a user's consoles, the online masters and a
+/// unit's devices. They belong to the version of the tables, whose statements are exact.
 const INDEXES: [&str; 3] = [
     "CREATE INDEX consoles_by_user ON consoles (usr, name)",
     "CREATE INDEX consoles_by_authority ON consoles (auth, online, name)",

@@ -62,7 +62,8 @@ fn has_our_index(schema: &Schema) -> bool
         .any(|index| is_ours(index.name.as_slice()))
 }
 
-// What the database cannot read of a table, and the table itself, are listed among the views.
+// What the database cannot read of a table, and the table itself, are listed among the views. A trigger cannot be
+// distinguished from an index there, so it counts, too.
 fn has_ours_unread(schema: &Schema) -> bool
     ensures { result ≡ list_any (λ v. is_some v.foreign && is_ours v.name) schema.now.views }
 {

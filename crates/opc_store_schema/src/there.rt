@@ -11,9 +11,8 @@ use opc_terms::store_fault::StoreFault;
 use sqlite::types::ValueRef;
 use sqlite::{Alter, Connection};
 
-/// Whether a query gives a row. It should have LIMIT 1, so that no more than that row is read, and needs no order: that
-/// LIMIT 1 gives a row if and only if a row passes the test is proved once for all tables (`returned_any` of
-/// opc_store_sql).
+/// Whether a query gives a row. It should have LIMIT 1, so that no more than that row is read, and needs no order:
+/// `returned_any` of opc_store_sql proves for all tables that LIMIT 1 gives a row if and only if a row passes the test.
 pub fn is_there_on<S: Alter>(
     conn: &mut Connection<S>,
     sql: &str,

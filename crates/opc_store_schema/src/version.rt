@@ -14,7 +14,8 @@ use sqlite::{Alter, Connection, Error, ErrorCode, Row};
 /// The version of the tables that this program makes.
 pub const VERSION: u32 = 3;
 
-/// The version that the one row of meta names, or 0.
+/// The version that the one row of meta names, or 0: then the tables are another program's (E92), as they are if meta
+/// cannot be queried. Only the answer counts, not what meta is made of.
 pub fn version_on<S: Alter>(conn: &mut Connection<S>) -> Result<u64, Error>
     requires { conn.old.in_transaction ≡ false }
     ensures mode { conn.new.in_transaction ≡ false }

@@ -22,7 +22,7 @@ pub on_success : {T E : Type 0} {P Q : T → Type 0} (r : Result T E) → IfOk r
 on_success (Ok x) h more = more x h
 on_success (Err e) h more = tt
 
--- on a condition that a success may ask for
+-- on a condition that a success may require
 pub on_clean : {T E : Type 0} {P Q : T → Type 0} (r : Result T E) (clean : Type 0) → (clean → IfOk r P) → ((x : T) → P x → Q x) → IfOk r (λ x. clean → Q x)
 on_clean (Ok x) clean h more = λ c. more x (h c)
 on_clean (Err e) clean h more = tt

@@ -1,4 +1,4 @@
--- What a search over the tables takes.
+-- Which profiles a search over the tables takes.
 use Rattle.std.specs.Prelude.{◌≡◌, ◌++◌, ℕ, Bool, List, Some, Result, Err, filter, map}
 use Rattle.sqlite_trees.specs.declared.store.Store.{Ghosts}
 use Rattle.sqlite.specs.Order.{Row}
@@ -18,8 +18,7 @@ chosen class head s = filter (is_chosen class (Some head)) s.policy.profiles
 abbrev pub covers : List ℕ → Profile → Bool
 covers resource p = covers_text p.pattern resource
 
--- A query answers with the rows of these profiles of the state, in their order, and its first rows are those of the
--- first.
+-- A query returns the rows of these profiles of the state, in their order, and its first rows are those of the first.
 pub record Selects {S : Type 0} (g : Ghosts S) (sql : List ℕ) (params : Row) (select : State → List Profile) : Type
     0 where
   pub begins : (h : Held S) (s : State) → Represents (state g h).now s → (rows : List Row)
@@ -27,6 +26,6 @@ pub record Selects {S : Type 0} (g : Ghosts S) (sql : List ℕ) (params : Row) (
   pub shows : (h k : Held S) (s : State) → Represents (state g h).now s → (rows : List Row)
       → Shown sql params (state g h) (state g k) rows → rows ≡ map profile_row (select s)
 
--- what asking leaves of tables, whatever comes of it, is what a query leaves that gave nothing
+-- what a search leaves of tables, whatever its result, is what a query without a result leaves
 abbrev pub unanswered : Result (Unit {0}) (Unit {0})
 unanswered = Err tt

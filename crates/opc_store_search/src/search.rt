@@ -31,8 +31,8 @@ use sqlite::types::ValueRef;
 use sqlite::{Alter, Connection, params};
 use std::alloc::Global;
 
-/// The profiles of a class with a head, in the order of their keys. A constant that its lemmas read, so that a text
-/// with another order is refused by what the text means.
+/// The profiles of a class with a head, in the order of their keys. A constant that its lemmas read, so that the prover
+/// refuses a text with another order.
 const BY_HEAD: &str =
     "SELECT class, pattern, owner, uacc, warning, skey, head FROM profiles WHERE class = ?1 AND head = ?2 ORDER BY class, skey";
 
@@ -167,7 +167,7 @@ pub fn first_on<S: Alter>(
 }
 
 /// The profile of a class that decides a resource, but without its access list: the search by heads asks the tables for
-/// the prefixes of the name, from the whole name down to the empty one, and no more once a profile covers.
+/// the prefixes of the name, from the whole name down to the empty one, until a profile covers.
 pub fn deciding_on<S: Alter>(
     alloc: Global,
     conn: &mut Connection<S>,
@@ -187,8 +187,8 @@ pub fn deciding_on<S: Alter>(
     search(&mut TableProfiles { alloc, conn }, class, resource)
 }
 
-/// The same where no profile was read since the tables were opened. A search by heads passes over a profile whose class
-/// is neither of the two, or whose head is not its pattern's, so each profile is read once before the first one.
+/// The same where no profile was read since the tables were opened. A search by heads skips a profile whose class is
+/// neither of the two, or whose head is not its pattern's, so each profile is read once before the first one.
 pub fn first_deciding_on<S: Alter>(
     alloc: Global,
     conn: &mut Connection<S>,

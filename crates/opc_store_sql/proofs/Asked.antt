@@ -1,4 +1,4 @@
--- A SELECT on one table: what is asked, and which rows it returns.
+-- A SELECT on one table: what it means, and which rows it returns.
 use Rattle.std.proofs.Common.{
   ◌≡◌,
   ℕ,
@@ -108,7 +108,7 @@ module _ (schema : Schema) (text : List ℕ) (q : Query) where
         (reads_as text params old new schema has (command_of (understood schema text)) refl is.plain is.unlisted
         rows h)
 
-    -- the first rows of an answer
+    -- the first rows of a result
     pub begins : (old : State) → old.now.schema ≡ schema → (rows : List Row) → Begins text params old rows
         → (tail : List Row) × Answers old.now (alone q) params (rows ++ tail)
     begins old has rows h =
@@ -299,7 +299,7 @@ module _ (a : Asked) (params : Row) where
             → rows ≡ map row (filter p xs)
         returned is old new has xs up had rows h = answer_is old.now xs up had rows (answers a.schema a.text (query a) is params old new has rows h)
 
-        -- the first rows of the answer
+        -- the first rows of the result
         pub returned_first : IsAsked a → (old : State) → old.now.schema ≡ a.schema → (xs : List X) → Rises cmp xs
             → HasRows (map row xs) (old.now.trees a.tree) → (rows : List Row) → Begins a.text params old rows
             → (tail : List Row) × (map row (filter p xs) ≡ rows ++ tail)

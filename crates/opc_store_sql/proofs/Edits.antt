@@ -72,7 +72,7 @@ module _ (schema : Schema) (table : Table) (source : Row) (old : Trees) (new : D
     news = with_rowid Chosen (old table.tree) r ∷ [];
   }) new.trees) cast applied).rows
 
--- ---- rows that pass a test go, or are replaced
+-- ---- rows that pass a test are removed, or replaced
 
 module _ (schema : Schema) (table : Table) (tests more : List Term) (params : Row) (old : Trees) (new : Database) (rows : List Row)
     (lists : Lists table.tree tests (col 1 0 ∷ more) [] old params rows) where
@@ -93,7 +93,7 @@ module _ (schema : Schema) (table : Table) (tests more : List Term) (params : Ro
   left kept = left_is meets (old table.tree) rows kept ids_same
 
   module _ (q : Row → Bool) (same : (r : Row) → meets r ≡ q (drop 1 r)) (have : List Row) (has : HasRows have (old table.tree)) where
-    -- the values of the rows that are left
+    -- the values of the rows that stay
     others_left : IsPermutation (filter (λ v. not (q v)) have) (map (λ (r : Row). drop 1 r) (filter (λ r. not (meets r)) (old table.tree)))
     others_left =
         let db = old table.tree in

@@ -22,7 +22,7 @@ module _ {X : Type 0} (row fixed : X → Row) (p : X → Bool) (same : (x : X) �
       go true e more = ap₂ (λ (r : Row) (rows : List Row). r ∷ rows) (same x e) more
       go false e more = more
 
--- `fixed` is the row with the columns as the test wants them
+-- `fixed` is the row with the columns as the test requires them
 module _ (a : Asked) (params : Row) (values : is_of_values a ≡ true) {X : Type 0} (row fixed : X → Row)
     (cmp : X → X → Ordering) (whole : (x : X) → (returns a params (Null ∷ fixed x)).1 ≡ fixed x)
     (less : (x y : X) → cmp x y ≡ Less → output_cmp (query a) (returns a params (Null ∷ fixed x)) (returns a params (Null ∷ fixed y)) ≡ Less)

@@ -1,5 +1,4 @@
--- A table whose rows come to its end, each numbered by its place: what its INSERT makes of it. Its first column is the
--- number, and is given as NULL.
+-- A table whose rows are added at its end, each numbered by its place: what its INSERT makes of it. Its first column is the number, and is given as NULL.
 use Rattle.std.proofs.Common.{◌≡◌, ℕ, ◌+◌, ◌-◌, ◌/◌, ◌<◌, ◌^◌, pos, List, [], ◌∷◌, ◌++◌, drop, length, slice_get, Some, Ok, ap, ap₂, ◌∙◌, arith, length-append}
 use Rattle.sqlite.specs.declared.types.Value.{Value}
 use Rattle.sqlite.specs.declared.types.Value.TheVariants.{Null, Int}

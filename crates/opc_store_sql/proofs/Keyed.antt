@@ -107,7 +107,7 @@ StoresAsIs [] values = Unit {0}
 StoresAsIs (c ∷ cs) [] = Unit {0}
 StoresAsIs (c ∷ cs) (v ∷ values) = (cast c.kind v ≡ v) × StoresAsIs cs values
 
--- if rows with this key go, or get another (not `deletes`), nothing is done to their children by this reference
+-- if rows with this key are removed, or get another one (not `deletes`), this reference does nothing to their children
 abbrev spared_by : ℕ → Option Deed → Option ParentKey → Bool
 spared_by tree None key = true
 spared_by tree (Some deed) None = true
@@ -154,7 +154,7 @@ module _ {X : Type 0} (k : Keyed X) where
     pub gives : (x : X) → value_rows (k.row x) (length k.table.columns + 1)
         (length (lit Null ∷ terms) / (length k.table.columns + 1)) (lit Null ∷ terms) ≡ (Null ∷ k.row x) ∷ []
     pub tested : (x : X) (rest : Env) → list_all (holds (k.row x ∷ rest)) tests ≡ list_all (holds (key_of x ∷ rest)) tests
-    -- and the key tells the members apart
+    -- and the key distinguishes the members
     pub total : IsTotalOrder k.cmp
     pub picks : (x y : X) → has_key x (k.row y) ≡ is_eq (k.cmp y x)
 
@@ -208,7 +208,7 @@ none_flat : {A B : Type 0} (f : A → List B) (p : A → Bool) → ((x : A) → 
 none_flat f p none [] h = refl
 none_flat f p none (x ∷ xs) h = let both = and_parts (p x) (list_all p xs) h in rw (none x both.0, none_flat f p none xs both.1)
 
--- if no reference acts, no row that goes or gets another key sets anything off
+-- if no reference acts, no row that is removed or gets another key sets anything off
 pub nothing_acts : (schema : Schema) (tree : ℕ) → is_idle schema tree true ≡ true → is_idle schema tree false ≡ true
     → (olds news : List Row) → works schema Enforced 0 tree olds news ≡ []
 nothing_acts schema tree deletes changes olds news = go (length news == 0)
@@ -279,7 +279,7 @@ module _ {X : Type 0} (k : Keyed X) (is : IsKeyed k) (x : X) where
             },
           )
 
-      -- it was not there, and comes
+      -- it was not there, and is added
       pub inserts : HasRows (map k.row (rest xs)) (old.now.trees k.table.tree)
           → Executes k.insert (k.row x) old new (Ok count) → Has k (replace_key k.cmp xs x) old.now.trees new.now
       inserts had h =

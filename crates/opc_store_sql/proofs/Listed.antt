@@ -1,5 +1,5 @@
--- The answer of a query on one table that goes by the key, if the table has one row for each member of a list in that
--- order: for each member that passes, what is shown of its row.
+-- The result of a query on one table in the order of the key, if the table has one row for each member of a list in that order: for each member that passes,
+-- what is shown of its row.
 use Rattle.std.proofs.Common.{◌≡◌, ℕ, List, map, drop, filter, Bool, Ordering, Less, sym, ap, subst, ◌∙◌, IsPermutation}
 use Rattle.std.proofs.lemmas.List.Sorted.{IsPermutation-map, IsPermutation-trans}
 use Rattle.sqlite.specs.Order.{Row}

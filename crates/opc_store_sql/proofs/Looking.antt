@@ -1,4 +1,4 @@
--- Queries, one after another, and what one whose rows are taken one at a time keeps.
+-- Queries, one after another, and what a query whose rows are taken one at a time keeps.
 use Rattle.std.proofs.Common.{◌≡◌, ◌∙◌, ℕ, List, inl, Ok, Err, Result, OnOk, IsTrue, refl, sym, subst, arith}
 use Rattle.std.specs.Result.{IsErr}
 use Rattle.sqlite_trees.specs.declared.store.Store.{Ghosts}
@@ -22,7 +22,7 @@ module _ {S : Type 0} (g : Ghosts S) where
     same = λ clean h. q.same clean h ∙ p.same (omega (arith, q.survives.clean)) (q.was_open clean h);
   }
 
-  -- what held of the tables holds still
+  -- what held of the tables still holds
   pub looked : (X E : Type 0) (x : X) (a b : Held S) → (let q : Result X E = Ok x in Looks g a b q)
       → HasCleanDisk (state g b) → (P : Database → Type 0) → P (state g a).now → P (state g b).now
   looked X E x a b p clean P h = subst P (sym (p.same clean (p.opened clean))) h

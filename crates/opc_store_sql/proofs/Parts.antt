@@ -43,7 +43,7 @@ keeps_all p [] h = refl
 keeps_all p (x ∷ xs) h = rw (h.0, keeps_all p xs h.1)
 
 module _ {X : Type 0} (cmp : X → X → Ordering) (p : X → Bool) where
-  -- it passes, and no other does; whatever has its key takes its place
+  -- it passes, and no other does; a member with its key takes its place
   pub record Parts (xs : List X) (x : X) : Type 0 where
     pub prefix : List X
     pub back : List X
@@ -110,7 +110,7 @@ module _ {X : Type 0} (cmp : X → X → Ordering) (p : X → Bool) where
       (ap (λ b. cond b (x ∷ filter p it.back) (filter p it.back)) it.passes
       ∙ ap (λ (l : List X). x ∷ l) (filter_none p it.back it.after)))
 
-  -- and the others are left
+  -- and the others stay
   pub others_of : (xs : List X) (x : X) (it : Parts xs x) → filter (λ y. not (p y)) xs ≡ it.prefix ++ it.back
   others_of xs x it =
       ap (filter (λ y. not (p y))) it.whole

@@ -1,4 +1,4 @@
--- Rows that are numbered by their places, as a query that goes by the number returns them.
+-- Rows that are numbered by their places, as a query in the order of the number returns them.
 use Rattle.std.proofs.Common.{
   ◌≡◌,
   ℕ,

@@ -1,4 +1,4 @@
--- Members that are put one after another, in whatever order they come: they are the list in the order of their keys.
+-- Members that are put one after another, in whatever order: they are the list in the order of their keys.
 use Rattle.std.proofs.Common.{◌≡◌, List, [], ◌∷◌, ◌++◌, false, not, sym, ap, subst, ◌∙◌, IsPermutation, Ordering, is_eq}
 use Rattle.std.specs.List.{AllByRecursion}
 use Rattle.std.specs.Cmp.{IsTotalOrder}

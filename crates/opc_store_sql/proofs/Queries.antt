@@ -1,4 +1,4 @@
--- What a query of one table answers.
+-- What a query of one table returns.
 use Rattle.std.proofs.Common.{
   ◌≡◌,
   ℕ,

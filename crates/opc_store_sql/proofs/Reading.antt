@@ -75,7 +75,7 @@ module _ (sql : List ℕ) (params : Row) (old new : State) (quiet : NeverWrites 
   reads_was_open (Ok x) rows shown failed = shown_was (rows x) shown
   reads_was_open (Err e) rows shown failed = failed_was e failed
 
--- what gave rows is open
+-- a connection that returned rows is open
 module _ (sql : List ℕ) (params : Row) (old new : State) (quiet : NeverWrites sql) where
   shown_open : (rows : List Row) → Shown sql params old new rows → IsTrue new.is_open
   unfolding Shown

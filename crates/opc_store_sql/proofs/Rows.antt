@@ -56,7 +56,7 @@ use Rattle.sqlite_rules.specs.Edit.{id_in, is_taken, are_fresh, put_all, without
 use Rattle.sqlite_rules.specs.Calls.{ids_of}
 use Rattle.opc_store_sql.specs.Rows.{IsKept}
 
--- ---- rows come in
+-- ---- rows are added
 
 same_false : (b : Bool) → not b ≡ true → b ≡ false
 same_false true h = absurd cc
@@ -88,7 +88,7 @@ put_all_kept [] rows ints kept = kept
 put_all_kept (n ∷ news) rows ints kept =
     put_all_kept news (put_row n rows) ints.1 (record { apart = IsTable-put_row n rows kept.apart; keyed = all-put_row _ n rows ints.0 kept.keyed })
 
--- ---- rows go
+-- ---- rows are removed
 
 -- r has the rowid of a row that passes
 abbrev hits : (Row → Bool) → List Row → Row → Bool
@@ -179,7 +179,7 @@ without_filter (id ∷ ids) rows =
     filter_same [] = refl
     filter_same (x ∷ xs) = rw (not_or (has_rowid id x) (list_any (λ id. has_rowid id x) ids), filter_same xs)
 
--- what is left is what does not pass
+-- what stays is what does not pass
 pub left_is : (p : Row → Bool) (rows found : List Row) → IsKept rows
     → IsPermutation (ids_of (filter p rows)) (ids_of found)
     → without_all rows (ids_of found) ≡ filter (λ r. not (p r)) rows

@@ -99,7 +99,7 @@ module _ {X : Type 0} (cmp : X → X → Ordering) (total : IsTotalOrder cmp) wh
   tie_back : (new x : X) → cmp new x ≡ Equal → is_eq (cmp x new) ≡ true
   tie_back new x tie = ap is_eq (total.antisymm x new ∙ ap ordering_reverse tie)
 
-  -- it comes in, and the one with its key goes
+  -- it is added, and the one with its key is removed
   pub replaced_is : (new : X) (xs : List X) → Rises cmp xs → IsPermutation (replace_key cmp xs new) (new ∷ others new xs)
   replaced_is new [] up = IsPermutation-refl _
   replaced_is new (x ∷ xs) up = go (cmp new x) refl (replaced_is new xs up.1)
@@ -135,7 +135,7 @@ module _ {X : Type 0} (cmp : X → X → Ordering) (total : IsTotalOrder cmp) wh
   first_above new [] h = refl
   first_above new (x ∷ xs) h = ap (λ o. match_ordering o (new ∷ x ∷ xs) (new ∷ xs) (x ∷ replace_key cmp xs new)) h.0
 
-  -- it makes no difference whether the one with its key goes first
+  -- it makes no difference whether the one with its key is removed first
   pub replaced_after : (new : X) (xs : List X) → Rises cmp xs → replace_key cmp (others new xs) new ≡ replace_key cmp xs new
   replaced_after new [] up = refl
   replaced_after new (x ∷ xs) up = go (cmp new x) refl (replaced_after new xs up.1)

@@ -1,5 +1,4 @@
--- How the rows of a table give the members that they stand for: decoded, and sorted by their keys, they are the
--- list.
+-- How the rows of a table give the members that they represent: decoded, and sorted by their keys, they are the list.
 use Rattle.std.proofs.Common.{
   ◌≡◌,
   ℕ,

@@ -82,12 +82,12 @@ pub record AddsAt (schema : Schema) (table : Table) (id : ℤ) (values : Row) (o
   pub spares : Spares schema table old new
   pub rows : new.trees table.tree ≡ put_row (Int id ∷ values) (old table.tree)
 
--- the rows that pass go, with their numbers
+-- the rows that pass are removed, with their numbers
 pub record TakesNumbers (schema : Schema) (table : Table) (p : Row → Bool) (old : Trees) (new : Database) : Type 0 where
   pub spares : Spares schema table old new
   pub rows : IsKept (old table.tree) → new.trees table.tree ≡ filter (λ r. not (p r)) (old table.tree)
 
--- the rows that pass go
+-- the rows that pass are removed
 pub record Takes (schema : Schema) (table : Table) (q : Row → Bool) (old : Trees) (new : Database) : Type 0 where
   pub spares : Spares schema table old new
   pub rows : (have : List Row) → HasRows have (old table.tree) → HasRows (filter (λ v. not (q v)) have) (new.trees table.tree)
@@ -154,7 +154,7 @@ module _ (schema : Schema) (text : List ℕ) (at : ℕ) (table : Table) (params 
     abbrev pub taking : List Row → Edit
     taking rows = edit_of old.now.trees table (ids_of rows) Given 0 []
 
-    -- if what the rows that go set off leaves everything else as it is
+    -- if what the removal of rows sets off leaves everything else as it is
     pub takes_by : command_of (understood schema text) ≡ Delete at (alone (selecting table.tree tests (col 1 0 ∷ []) []))
         → ((r : Row) → passes table.tree tests (col 1 0 ∷ []) [] old.now.trees params r ≡ q (drop 1 r))
         → ((rows : List Row) → Lists table.tree tests (col 1 0 ∷ []) [] old.now.trees params rows
@@ -246,7 +246,7 @@ module _ {X : Type 0} (row : X → Row) (cmp : X → X → Ordering) (total : Is
 
   module _ (schema : Schema) (table : Table) (xs : List X) (up : Rises cmp xs) where
     module _ (old : Trees) (now : Database) (stored : HasRows (map row xs) (old table.tree)) where
-      -- it went
+      -- it was removed
       pub taken : Takes schema table q old now → HasRows (map row (others cmp total new xs)) (now.trees table.tree)
       taken h = subst (λ (l : List Row). HasRows l (now.trees table.tree)) (left xs) (h.rows (map row xs) stored)
 
@@ -271,7 +271,7 @@ module _ {X : Type 0} (row : X → Row) (cmp : X → X → Ordering) (total : Is
         pub missed : count ≡ 0 → HasRows (map row (others cmp total new xs)) (now.trees table.tree)
         missed none = none_of (hits xs) (others cmp total new xs) _ (sym count_hits ∙ none) both
 
-    -- it was not there, and came
+    -- it was not there, and was added
     pub added : (old : Trees) (now : Database) → HasRows (map row (others cmp total new xs)) (old table.tree)
         → Adds schema table (row new) old now → HasRows (map row (replace_key cmp xs new)) (now.trees table.tree)
     added old now stored h = more_rows xs _ up (h.rows _ stored)

@@ -1,4 +1,4 @@
-//! What SQL statements do to tables: general lemmas, and the calls that they are about.
+//! What SQL statements do to tables: general lemmas, and the calls to which they apply.
 #![tactic(auto)]
 
 pub mod numbers;

@@ -33,7 +33,7 @@ pub fn removed_from_board(kind: &str, key: &str) -> Result<Edit> {
 
 /// A batch: its number and the record of its one row.
 fn batch_in(alloc: Global, words: &str) -> Result<Batch> {
-    // For the prover alone, which needs a name of the crate that has them.
+    // For the prover alone, which needs a name from the crate that defines them.
     let _nowhere: Option<ConsoleName> = None;
     let (number, record) = words.split_once(' ').context("no record")?;
     let mut rows = Rows::new(alloc);

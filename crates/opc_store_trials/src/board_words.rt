@@ -8,7 +8,7 @@ use opc_names::reply_id::ReplyId;
 use opc_terms::mode::Mode;
 use std::alloc::Global;
 
-/// The name that a word is, if it is not `-`.
+/// The name in a word, if it is not `-`.
 fn name_in<K: NameKind<N>, const N: usize>(word: &str) -> Result<Option<Name<K, N>>> {
     match word {
         "-" => Ok(None),
@@ -42,7 +42,7 @@ pub fn unit_in(alloc: Global, words: &str) -> Result<UnitRow> {
     })
 }
 
-/// The text that a word is, if it is not `-`.
+/// The text in a word, if it is not `-`.
 fn text_in(alloc: Global, word: &str) -> Result<Option<KeptText>> {
     match word {
         "-" => Ok(None),

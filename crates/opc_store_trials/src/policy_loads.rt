@@ -46,7 +46,7 @@ pub fn records<T: Tables>(alloc: Global, tables: &mut T, kind: &str) -> Result<S
     ended(alloc, lines)
 }
 
-/// That the whole policy is loaded, or the fault.
+/// Whether the whole policy could be loaded, or the fault.
 pub fn policy<T: Tables>(alloc: Global, tables: &mut T) -> Result<String> {
     match tables.policy(alloc) {
         Ok(_) => Ok(String::from_str(alloc, "a policy\n")?),
@@ -54,7 +54,7 @@ pub fn policy<T: Tables>(alloc: Global, tables: &mut T) -> Result<String> {
     }
 }
 
-/// What the policy decides: a user, a level and a name.
+/// What the policy decides for a user, a level and a name.
 pub fn explained<T: Tables>(alloc: Global, tables: &mut T, words: &str) -> Result<String> {
     let (user, rest) = words.split_once(' ').context("no level")?;
     let (level, name) = rest.split_once(' ').context("no name")?;

@@ -96,7 +96,7 @@ pub fn listed_lines(alloc: Global, found: &Found) -> Result<String> {
     Ok(format!(in alloc; "{records}{} {}\n", found.ranges, found.rows)?)
 }
 
-/// What was taken: the profile with its access list, and how many profiles were read.
+/// What was found: the profile with its access list, and how many profiles were read.
 pub fn taken_lines(alloc: Global, taken: &Taken) -> Result<String> {
     let mut rows = Vec::new(alloc);
     if let Some(profile) = &taken.profile {

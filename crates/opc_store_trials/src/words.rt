@@ -3,7 +3,7 @@ use anyhow::{Result, bail};
 use opc_terms::store_fault::StoreFault;
 use std::alloc::Global;
 
-/// A fault of the tables, as a line; refused memory ends the program.
+/// A fault of the tables, as a line; a failed allocation ends the program.
 pub fn fault_line(alloc: Global, fault: StoreFault) -> Result<String> {
     match fault {
         StoreFault::NoMemory => bail!("out of memory"),
@@ -11,7 +11,7 @@ pub fn fault_line(alloc: Global, fault: StoreFault) -> Result<String> {
     }
 }
 
-/// The line of a question that is answered by yes or no.
+/// The line of an answer, which is yes or no.
 pub fn answer_line(alloc: Global, answer: bool) -> Result<String> {
     Ok(String::from_str(alloc, if answer { "yes\n" } else { "no\n" })?)
 }

@@ -19,7 +19,7 @@ use opc_terms::store_fault::StoreFault;
 use sqlite::{Alter, Connection};
 use std::alloc::{AllocError, Global};
 
-// Each of these puts a list that is in order, member after member, into what keeps that order.
+// Each of these puts a list that is in order, member after member, into a collection that keeps that order.
 fn groups_of(alloc: Global, list: &[GroupName]) -> Result<Groups, AllocError>
     ensures { Rises name_cmp list.now → IfOk result (λ v. v ≡ list.now) }
 {

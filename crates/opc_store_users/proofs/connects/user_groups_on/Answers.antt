@@ -10,7 +10,7 @@ use Rattle.opc_store_users.proofs.connects.user_groups_on.Goals as goal
 pub read-requires-clause-quiet : goal.read-requires-clause-quiet
 read-requires-clause-quiet g c = never_writes of_user_asked
 
--- that of `groups_of` with at most this many
+-- the query of `groups_of` with at most this many
 pub returns-clause-found : goal.returns-clause-found
 returns-clause-found g c clean s was =
     let user = c.args.user.now in

@@ -103,7 +103,7 @@ module _ {S : Type 0} (left : S → Option (List ℕ)) (gives : S → List ℕ �
     are = (mid, before, given, reads.are, may_be, gave, is);
   }
 
-  -- more reads after some, each of which might be made
+  -- more reads after some, each of which was allowed
   pub more-reads : (may more : List ℕ → ℕ → Type 0) (first mid : S) (start bytes : List ℕ) → Reads left gives may first start mid bytes
       → ((moved : List ℕ) (count : ℕ) → more (bytes ++ moved) count → may (bytes ++ moved) count)
       → (n : ℕ) (last : S) (all : List ℕ) → AreReads left gives more mid bytes n last all → Reads left gives may first start last all

@@ -1,8 +1,8 @@
--- What is made of a call of a reader or a writer.
+-- How a call of a reader or a writer is reported.
 use Rattle.std.specs.Prelude.{◌≡◌, ◌⊎◌, ◌<◌, ℕ, List, IsErr, Result, Ok, length}
 use Rattle.std.specs.declared.io.Error.{Error}
 
--- A write of these bytes is reported as it was answered, or, if it took none of some bytes, as a failure.
+-- A write of these bytes is reported as its result, or, if it took none of some bytes, as a failure.
 abbrev pub IsReportedAs : List ℕ → (answer reported : Result ℕ Error) → Type 0
 IsReportedAs bytes answer reported = (reported ≡ answer) ⊎ ((answer ≡ Ok 0) × (0 < length bytes) × IsErr reported)
 

@@ -30,7 +30,7 @@ is_read (Ok a) = false
 is_read (Err fault.Read) = true
 is_read (Err fault.NoMemory) = false
 
--- what a read gave, by what it answered and what its buffer is then; none if it failed
+-- what a read gave, by its result and its buffer afterwards; none if it failed
 abbrev pub given_by : {E : Type 0} → Result ℕ E → List ℕ → List ℕ
 given_by (Ok n) buf = take n buf
 given_by (Err e) buf = []
@@ -56,7 +56,7 @@ module _ {S : Type 0} (left : S → Option (List ℕ)) (gives : S → List ℕ �
     pub read : gives before given after
     pub consumes : Consumes (left before) (left after) given
 
-  -- one read, of at most this many bytes; they are in the buffer, unless there was no memory for them
+  -- one read, of at most this many bytes; they are in the buffer, unless their allocation failed
   pub record ReadsOnce (most : ℕ) (before after : S) (old new : List ℕ) (result : Result ℕ SourceFault) : Type 0 where
     pub given : List ℕ
     pub is : Gives before given after
@@ -65,7 +65,7 @@ module _ {S : Type 0} (left : S → Option (List ℕ)) (gives : S → List ℕ �
 
   module _ (may : List ℕ → ℕ → Type 0) (first : S) (start : List ℕ) where
     -- This many reads, one after another and nothing else, after which these bytes are there. Each was made only if it
-    -- might be: by the bytes that were there before it, and by how many it gave.
+    -- was allowed, by the bytes that were there before it and by how many it gave.
     abbrev pub AreReads : ℕ → S → List ℕ → Type 0
     AreReads zero last bytes = (last ≡ first) × (bytes ≡ start)
     AreReads (suc n) last bytes =

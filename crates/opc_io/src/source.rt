@@ -25,11 +25,11 @@ const BLOCK: usize = 1024;
 
 /// A reader that remembers whether a read of it failed.
 pub trait Source {
-    /// That a read of the one source gave these bytes and left the other; none if it failed. What a function over any
-    /// source promises in terms of it can only be shown by the reads that the function makes.
+    /// A read of the first source gave these bytes and left the second; none if it failed. Only the reads that a
+    /// function over any source makes can show what it promises by this.
     ghost gives: { Self → List ℕ → Self → Type 0 };
 
-    /// The bytes that reads will give from here on, if they are known.
+    /// The bytes that later reads will give, if they are known.
     ghost left: { Self → Option (List ℕ) };
 
     /// Whether a read of it failed.

@@ -9,11 +9,11 @@ use std::io::{Read, Write};
 
 /// A reader.
 pub trait Readable {
-    /// The bytes that reads will give from here on, if they are known.
+    /// The bytes that later reads will give, if they are known.
     ghost remaining: { Self → Option (List ℕ) };
 
-    /// That a read of the one answered like this and left the other. What a function over any of these promises by it
-    /// can only be shown by the reads that the function makes.
+    /// A read of the first returned this and left the second. Only the reads that a function over any reader makes can
+    /// show what it promises by this.
     ghost reads: { Self → Result ℕ Error → Self → Type 0 };
 
     fn read_once(&mut self, buf: &mut [u8]) -> io::Result<usize>
@@ -27,7 +27,7 @@ pub trait Writable {
     /// The bytes that it holds, if they are known.
     ghost contents: { Self → Option (List ℕ) };
 
-    /// That a write of these bytes to the one answered like this and left the other. It can only be shown by a write.
+    /// A write of these bytes to the first returned this and left the second. Only a write can show it.
     ghost writes: { Self → List ℕ → Result ℕ Error → Self → Type 0 };
 
     fn write_once(&mut self, bytes: &[u8]) -> io::Result<usize>

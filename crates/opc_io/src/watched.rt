@@ -59,7 +59,7 @@ impl<W: Writable> Sink for Watched<W> {
 
     ghost has_failed = { λ w. w.failed };
 
-    /// Writes to the writer once, and remembers whether that write failed, or took no byte.
+    /// Writes to the writer once, and remembers whether that write failed or took no byte.
     fn write(&mut self, bytes: &[u8]) -> io::Result<usize>
         ensures bound { WritesAtMost result bytes.now }
         ensures some { 0 < length bytes.now → IfOk result (λ n. 0 < n) }

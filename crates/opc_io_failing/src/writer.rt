@@ -14,7 +14,7 @@ pub struct FailingWriter {
     pub piece: usize,
     /// How many writes do not fail.
     pub writes: usize,
-    /// Whether memory was refused for the bytes.
+    /// Whether the allocation for the bytes failed.
     pub lacks_memory: bool,
 }
 

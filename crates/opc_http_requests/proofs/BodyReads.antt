@@ -36,6 +36,7 @@ use Rattle.opc_io.specs.Reads.{Reads, ReadsMore, ReadsOnce, TakesAtMost}
 use Rattle.opc_io.specs.declared.source.SourceFault.{SourceFault}
 use Rattle.opc_io.proofs.Reading.{consumes-more, consumes-none, one-read-more, takes-after}
 use Rattle.opc_http_requests.specs.declared.refusal.HttpRefusal.TheVariants.{BadRequest}
+use Rattle.opc_http_requests.specs.declared.refusal.InvalidPart.TheVariants.{CutShort}
 use Rattle.opc_http_requests.specs.Bodies.{MayFill, ReadsTo}
 use Rattle.opc_http_requests.specs.Requests.{body_in}
 
@@ -120,7 +121,7 @@ there len n new rest long =
     rw (later, fits, count, take-append-le n (drop len new) rest low) refl
 
 -- a body that is not
-missing : (len n : ℕ) (new : List ℕ) → len ≤ length new → length new < len + n → body_in n (drop len new) ≡ Err BadRequest
+missing : (len n : ℕ) (new : List ℕ) → len ≤ length new → length new < len + n → body_in n (drop len new) ≡ Err (BadRequest CutShort)
 missing len n new later short =
     let few : length (drop len new) < n = omega (arith, length-drop len new, later, short) in
     let test : nat_le n (length (drop len new)) ≡ false = grind (arith, nat_tests, few) in
@@ -133,7 +134,7 @@ body-there (Some left) None old new len n read = absurd read.consumes
 body-there (Some left) (Some rest) old new len n read = rw (all-bytes old read.moved new left rest read.buffer read.consumes) (there len n new rest read.is)
 
 pub body-missing : (known after : Option (List ℕ)) (old new : List ℕ) (len n : ℕ) → len ≤ length old → ReadsTo (len + n) false known after old new
-    → IfSome known (λ left. body_in n (drop len (old ++ left)) ≡ Err BadRequest)
+    → IfSome known (λ left. body_in n (drop len (old ++ left)) ≡ Err (BadRequest CutShort))
 body-missing None after old new len n low read = tt
 body-missing (Some left) None old new len n low read = absurd read.consumes
 body-missing (Some left) (Some rest) old new len n low read =

@@ -33,6 +33,7 @@ use Rattle.std.proofs.lemmas.List.{map-append, take_more, take-append-drop}
 use Rattle.opc_http_requests.specs.Framing.{FieldLine, has_name, length_with, only, values_of}
 use Rattle.opc_http_requests.specs.declared.refusal.HttpRefusal.{HttpRefusal}
 use Rattle.opc_http_requests.specs.declared.refusal.HttpRefusal.TheVariants.{BadRequest}
+use Rattle.opc_http_requests.specs.declared.refusal.InvalidPart.TheVariants.{Coding, Length}
 
 false-true : false ≡ true → ⊥
 false-true e = cc
@@ -82,7 +83,7 @@ module _ {H : Type 0} (line : H → FieldLine) where
   -- a second one
   pub often : {A : Type 0} (f : A → List ℕ) (name : List ℕ) (hs : List H) (i : ℕ) (d : H) (found : Option A) → i < length hs
       → values_of name (map line (take i hs)) ≡ option_to_list (option_map f found) → is_some found ≡ true → has_name name (line (get_or hs i d)) ≡ true
-      → only (values_of name (map line hs)) ≡ Err BadRequest
+      → only (values_of name (map line hs)) ≡ Err (BadRequest Length)
   often f name hs i d None low same is named = absurd (false-true is)
   often f name hs i d (Some value) low same is named =
       let rest : List H = drop (i + 1) hs in
@@ -96,15 +97,15 @@ module _ {H : Type 0} (line : H → FieldLine) where
 nothing-coded : (vs : List (List ℕ)) → only vs ≡ Ok None → vs ≡ []
 nothing-coded [] e = refl
 nothing-coded (v ∷ []) e = absurd (none-is-some v (sym e))
-nothing-coded (v ∷ w ∷ vs) e = absurd (ok-is-err None BadRequest (sym e))
+nothing-coded (v ∷ w ∷ vs) e = absurd (ok-is-err None (BadRequest Length) (sym e))
 
 pub no-coding : (vs : List (List ℕ)) (r : Result ℕ HttpRefusal) → only vs ≡ Ok None → length_with vs r ≡ r
 no-coding vs r e = rw (nothing-coded vs e) refl
 
-pub one-coding : (vs : List (List ℕ)) (r : Result ℕ HttpRefusal) (v : List ℕ) → only vs ≡ Ok (Some v) → length_with vs r ≡ Err BadRequest
+pub one-coding : (vs : List (List ℕ)) (r : Result ℕ HttpRefusal) (v : List ℕ) → only vs ≡ Ok (Some v) → length_with vs r ≡ Err (BadRequest Coding)
 one-coding [] r v e = absurd (none-is-some v e)
 one-coding (w ∷ vs) r v e = refl
 
-pub codings : (vs : List (List ℕ)) (r : Result ℕ HttpRefusal) (why : HttpRefusal) → only vs ≡ Err why → length_with vs r ≡ Err BadRequest
+pub codings : (vs : List (List ℕ)) (r : Result ℕ HttpRefusal) (why : HttpRefusal) → only vs ≡ Err why → length_with vs r ≡ Err (BadRequest Coding)
 codings [] r why e = absurd (ok-is-err None why e)
 codings (w ∷ vs) r why e = refl

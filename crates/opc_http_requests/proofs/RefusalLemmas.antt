@@ -11,6 +11,6 @@ pub refuses-then : {A B : Type 0} (why : AskFault) (r : Result A HttpRefusal) (f
 refuses-then (fault.Refused reason) r f h = rw h refl
 refuses-then fault.NoMemory r f h = tt
 
--- a step that is done leaves the rest
+-- a step that succeeds leaves the rest
 pub ok-then : {A B : Type 0} (r : Result A HttpRefusal) (a : A) (f : A → Result B HttpRefusal) → r ≡ Ok a → (r >>= f) ≡ f a
 ok-then r a f h = rw h refl

@@ -42,6 +42,7 @@ use Rattle.opc_http_requests.specs.declared.refusal.AskFault.TheVariants as aski
 use Rattle.opc_http_requests.specs.declared.origins.Origins.{Origins}
 use Rattle.opc_http_requests.specs.declared.refusal.HttpRefusal.{HttpRefusal}
 use Rattle.opc_http_requests.specs.declared.refusal.HttpRefusal.TheVariants.{BadRequest}
+use Rattle.opc_http_requests.specs.declared.refusal.InvalidPart.TheVariants.{Head}
 use Rattle.opc_http_requests.specs.Asked.{Asks, AsksOnly}
 use Rattle.opc_http_requests.specs.Faults.{IfRefused, by_asking}
 use Rattle.opc_http_requests.specs.Paths.{path_in}
@@ -56,7 +57,7 @@ pub one-head : (all : List ℕ) (a b : RequestHead) → HasHead all a → HasHea
 one-head all a b h k = (request_unique (take 8192 all) a b h.rest k.rest h.reads k.reads).0
 
 module _ (origins : Origins) where
-  -- and ask for one thing
+  -- and ask for the same
   asks-one : (all : List ℕ) (r s : Result Request HttpRefusal) → Asks origins all r → Asks origins all s → s ≡ r
   asks-one all r s (inl a) (inl b) = b.1 ∙ sym a.1
   asks-one all r s (inl a) (inr b) = absurd (a.0 b.head b.has)
@@ -70,9 +71,9 @@ module _ (origins : Origins) where
   asks-only all r a = record { asks = a; only = λ s b. asks-one all r s a b }
 
   -- no head was found
-  pub asks-headless : (known : Option (List ℕ)) → IfSome known NoHead → IfSome known (λ all. AsksOnly origins all (Err BadRequest))
+  pub asks-headless : (known : Option (List ℕ)) → IfSome known NoHead → IfSome known (λ all. AsksOnly origins all (Err (BadRequest Head)))
   asks-headless None h = tt
-  asks-headless (Some all) h = asks-only all (Err BadRequest) (inl (h, refl))
+  asks-headless (Some all) h = asks-only all (Err (BadRequest Head)) (inl (h, refl))
 
   -- the spans give the plan of the head that they find
   pub head-plan : (all buf : List ℕ) (headers : List HeaderSpan) (spans : RequestSpans) (f : FoundHead all buf headers spans)
@@ -88,7 +89,7 @@ module _ (origins : Origins) where
       let plan = sym (head-plan all buf headers spans f) ∙ e in
       asks-only all (Err why) (inr (record { head = f.head; has = f.has; is = rw plan refl }))
 
-  -- the plan comes to a request or a refusal
+  -- the outcome of the plan is a request or a refusal
   pub asks-planned : (known mid : Option (List ℕ)) (buf : List ℕ) (headers : List HeaderSpan) (spans : RequestSpans)
       (plan : Plan) (r : Result Request HttpRefusal) → Consumes known mid buf → IfSome known (λ all. FoundHead all buf headers spans)
       → plan_in origins buf headers spans ≡ Ok plan
@@ -100,7 +101,7 @@ module _ (origins : Origins) where
       let left_is : drop spans.len (buf ++ left) ≡ drop (length (print_request f.head)) all = rw (c, f.parts.len) refl in
       asks-only all r (inr (record { head = f.head; has = f.has; is = rw is (sym (rw (f.parts.path, left_is) at p)) }))
 
--- this many bytes are no more than more
+-- this many bytes are at most as many as a greater number
 takes-fewer : (few most : ℕ) (before after : Option (List ℕ)) → few ≤ most → TakesAtMost few before after → TakesAtMost most before after
 takes-fewer few most before after low t = record { taken = t.taken; consumes = t.consumes; few = let h = t.few in omega (arith, h, low) }
 

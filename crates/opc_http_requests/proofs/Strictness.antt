@@ -9,6 +9,7 @@ use Rattle.opc_http_requests.specs.Origins.{is_local}
 use Rattle.opc_http_requests.specs.declared.origins.Origins.TheVariants.{Any, Only}
 use Rattle.opc_http_requests.specs.declared.refusal.HttpRefusal.{HttpRefusal}
 use Rattle.opc_http_requests.specs.declared.refusal.HttpRefusal.TheVariants.{BadRequest, Forbidden}
+use Rattle.opc_http_requests.specs.declared.refusal.InvalidPart.TheVariants.{Head}
 use Rattle.opc_http_requests.specs.Asked.{Asks, AsksOnly}
 use Rattle.opc_http_requests.specs.Laws.{AsksForTheSame, IsFromHere, WebPagesAreForbidden, WhatIsAskedIsFromHere}
 use Rattle.opc_http_requests.specs.Requests.{request_of}
@@ -35,7 +36,7 @@ no_refusal request why e = cc
 
 from_here : (port : ℕ) (all : List ℕ) (request : Request) → AsksOnly (Only port) all (Ok request)
     → Asks (Only port) all (Ok request) → IsFromHere port all
-from_here port all request asks (inl none) = absurd (no_refusal request BadRequest none.1)
+from_here port all request asks (inl none) = absurd (no_refusal request (BadRequest Head) none.1)
 from_here port all request asks (inr by) = elim (cases_Bool (is_local port (map name_and_value by.head.fields))) [
   | inl is ↦ record { head = by.head; has = by.has; is = is }
   | inr other ↦ absurd (no_refusal request Forbidden

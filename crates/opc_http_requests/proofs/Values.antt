@@ -16,6 +16,7 @@ use Rattle.opc_policy_members.specs.declared.row.Row.{Row}
 use Rattle.opc_http_requests.specs.BodyValues.{rows_in, value_in}
 use Rattle.opc_http_requests.specs.Keys.{members_count}
 use Rattle.opc_http_requests.specs.declared.refusal.HttpRefusal.TheVariants.{BadRequest, BadRow}
+use Rattle.opc_http_requests.specs.declared.refusal.InvalidPart.TheVariants.{Json, Utf8}
 
 some-members : (a b : Members) → Some a ≡ Some b → a ≡ b
 some-members a b e = cc
@@ -32,7 +33,7 @@ members_count-object (array ds) ms e = absurd (none-some ms e)
 members_count-object (object other) ms e = ap members_len (some-members ms other e)
 
 -- a body with no value
-pub value-none : (bytes : List ℕ) → (IsUtf8 bytes → read bytes ≡ None) → value_in bytes ≡ Err BadRequest
+pub value-none : (bytes : List ℕ) → (IsUtf8 bytes → read bytes ≡ None) → value_in bytes ≡ Err (BadRequest Json)
 value-none bytes h = elim (cases_Bool (is_utf8 bytes)) [
   | inl text ↦ rw (text, h (IsUtf8-from_is_utf8 bytes text)) refl
   | inr other ↦ rw other refl
@@ -43,7 +44,7 @@ pub value-read : (bytes : List ℕ) (d : Data) → IsUtf8 bytes → read bytes �
 value-read bytes d text e = rw (is_utf8-from_IsUtf8 bytes text, e) refl
 
 -- a policy file that is not a text
-pub rows-none : (bytes : List ℕ) → ¬ (IsUtf8 bytes) → rows_in bytes ≡ Err BadRequest
+pub rows-none : (bytes : List ℕ) → ¬ (IsUtf8 bytes) → rows_in bytes ≡ Err (BadRequest Utf8)
 rows-none bytes h = elim (cases_Bool (is_utf8 bytes)) [
   | inl text ↦ absurd (h (IsUtf8-from_is_utf8 bytes text))
   | inr other ↦ rw other refl
@@ -53,7 +54,7 @@ rows-none bytes h = elim (cases_Bool (is_utf8 bytes)) [
 pub rows-read : (bytes : List ℕ) (rows : List Row) → IsUtf8 bytes → policy_of bytes ≡ Ok rows → rows_in bytes ≡ Ok rows
 rows-read bytes rows text e = rw (is_utf8-from_IsUtf8 bytes text, e) refl
 
--- a bad row does not mean that memory was refused
+-- a bad row does not mean that an allocation failed
 row-or-memory : (row : ℕ) (why : Why) → import.Row row why ≡ import.NoMemory → ⊥
 row-or-memory row why e = cc
 

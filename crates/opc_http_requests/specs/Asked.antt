@@ -8,6 +8,7 @@ use Rattle.opc_http_requests.specs.Head.{HasHead, MayLook, NoHead}
 use Rattle.opc_http_requests.specs.declared.origins.Origins.{Origins}
 use Rattle.opc_http_requests.specs.declared.refusal.HttpRefusal.{HttpRefusal}
 use Rattle.opc_http_requests.specs.declared.refusal.HttpRefusal.TheVariants.{BadRequest}
+use Rattle.opc_http_requests.specs.declared.refusal.InvalidPart.TheVariants.{Head}
 use Rattle.opc_http_requests.specs.Bodies.{MayFill}
 use Rattle.opc_http_requests.specs.Plans.{plan_of}
 use Rattle.opc_http_requests.specs.Requests.{request_of}
@@ -23,9 +24,9 @@ body_part (Err why) = 0
 abbrev pub looked_through : RequestHead → ℕ
 looked_through head = min 8192 (length (print_request head) + 1023)
 
--- with requests accepted from there
+-- if requests are accepted from there
 module _ (origins : Origins) where
-  -- the bytes have a head, and that is what it comes to
+  -- the bytes have a head, and this is its outcome
   pub record AsksByHead (all : List ℕ) (asked : Result Request HttpRefusal) : Type 0 where
     pub head : RequestHead
     pub has : HasHead all head
@@ -33,7 +34,7 @@ module _ (origins : Origins) where
 
   -- what the bytes of a connection ask for: a request, or the first refusal
   abbrev pub Asks : List ℕ → Result Request HttpRefusal → Type 0
-  Asks all asked = (NoHead all × (asked ≡ Err BadRequest)) ⊎ AsksByHead all asked
+  Asks all asked = (NoHead all × (asked ≡ Err (BadRequest Head))) ⊎ AsksByHead all asked
 
   -- and nothing else
   pub record AsksOnly (all : List ℕ) (asked : Result Request HttpRefusal) : Type 0 where

@@ -3,6 +3,7 @@ pub mod Head
 pub mod Origins
 pub mod Refusals
 pub mod Routes
+pub mod BodyKeys
 pub mod Keys
 pub mod Operations
 pub mod BodyValues

@@ -64,7 +64,7 @@ names_host port fields = is_only_host port (values_of (codes "host") fields)
 abbrev pub is_local : (port : ℕ) → List FieldLine → Bool
 is_local port fields = not (is_from_page fields) && names_host port fields
 
--- that a request with these fields is accepted
+-- a request with these fields is accepted
 abbrev pub admitted : Origins → List FieldLine → Result Unit HttpRefusal
 admitted Any fields = Ok tt
 admitted (Only port) fields = if is_local port fields then Ok tt else Err Forbidden

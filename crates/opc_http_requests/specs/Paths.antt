@@ -30,6 +30,7 @@ use Rattle.opc_http_requests.specs.Refusals.{required}
 use Rattle.opc_http_requests.specs.Routes.{part_at, route_of}
 use Rattle.opc_http_requests.specs.declared.refusal.HttpRefusal.{HttpRefusal}
 use Rattle.opc_http_requests.specs.declared.refusal.HttpRefusal.TheVariants.{NotFound}
+use Rattle.opc_http_requests.specs.declared.refusal.InvalidPart.TheVariants.{Batch, Class as ClassPart, Console, Count, First}
 use Rattle.opc_http_requests.specs.declared.routes.Route.{Route}
 
 -- a byte of a path: 63 is `?`, and 126 (7E) is the last one
@@ -73,20 +74,20 @@ within least most n = if nat_le least n && nat_le n most then Some n else None
 
 -- the console: the second part
 abbrev pub console_in : List ℕ → Result (List ℕ) HttpRefusal
-console_in path = required (name_of console_rule (unescaped (part_at 2 path)))
+console_in path = required Console (name_of console_rule (unescaped (part_at 2 path)))
 
 -- what follows the third part: the number of a batch, from 1 to 999,999,999
 abbrev pub batch_in : List ℕ → Result ℕ HttpRefusal
-batch_in path = required (option_and_then (within 1 999999999) (number_in 9 (part_at 4 path)))
+batch_in path = required Batch (option_and_then (within 1 999999999) (number_in 9 (part_at 4 path)))
 
 -- or a class
 abbrev pub class_in : List ℕ → Result Class HttpRefusal
-class_in path = required (lookup classes (part_at 4 path))
+class_in path = required ClassPart (lookup classes (part_at 4 path))
 
 -- or the first number of the account, of at most 18 digits
 abbrev pub from_in : List ℕ → Result ℕ HttpRefusal
-from_in path = required (number_in 18 (part_at 4 path))
+from_in path = required First (number_in 18 (part_at 4 path))
 
 -- and how many rows of it, from 1 to 1,000
 abbrev pub count_in : List ℕ → Result ℕ HttpRefusal
-count_in path = required (option_and_then (within 1 1000) (number_in 4 (part_at 5 path)))
+count_in path = required Count (option_and_then (within 1 1000) (number_in 4 (part_at 5 path)))

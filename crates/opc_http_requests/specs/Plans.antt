@@ -29,7 +29,7 @@ abbrev pub method_text : Method → List ℕ
 method_text Get = codes "GET"
 method_text Post = codes "POST"
 
--- that a request has its route's method
+-- the request has its route's method
 abbrev pub has_method : List ℕ → Route → Result Unit HttpRefusal
 has_method method route = if bytes_eq method (method_text (method_of route)) then Ok tt else Err
     (MethodNotAllowed (method_of route))

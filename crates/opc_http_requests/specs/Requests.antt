@@ -8,6 +8,7 @@ use Rattle.opc_http_requests.specs.Refusals.{◌>>=◌}
 use Rattle.opc_http_requests.specs.declared.origins.Origins.{Origins}
 use Rattle.opc_http_requests.specs.declared.refusal.HttpRefusal.{HttpRefusal}
 use Rattle.opc_http_requests.specs.declared.refusal.HttpRefusal.TheVariants.{BadRequest}
+use Rattle.opc_http_requests.specs.declared.refusal.InvalidPart.TheVariants.{CutShort}
 use Rattle.opc_http_requests.specs.declared.routes.Route.{Route}
 use Rattle.opc_http_requests.specs.declared.routes.Route.TheVariants.{Command, Admin, Import, ListProfiles, ListAccount}
 use Rattle.opc_http_requests.specs.BodyValues.{command_in, operation_in, rows_in}
@@ -17,7 +18,7 @@ use Rattle.opc_http_requests.specs.declared.plan.Plan.{Plan}
 
 -- this many bytes, if there are as many
 abbrev pub body_in : ℕ → List ℕ → Result (List ℕ) HttpRefusal
-body_in n left = if nat_le n (length left) then Ok (take n left) else Err BadRequest
+body_in n left = if nat_le n (length left) then Ok (take n left) else Err (BadRequest CutShort)
 
 -- what a route asks for at a console: the other values of the path, and then the body
 abbrev pub request_by : Route → (console path body : List ℕ) → Result Request HttpRefusal
@@ -45,14 +46,14 @@ request_at route path body = do
   console ← console_in path
   request_by route console path body
 
--- what a plan comes to, with the bytes that follow the head
+-- the outcome of a plan, with the bytes that follow the head
 abbrev pub planned : (target left : List ℕ) → Plan → Result Request HttpRefusal
 planned target left plan = do
   body ← body_in plan.length left
   path ← path_in target
   request_at plan.route path body
 
--- what a head comes to, with the bytes that follow it
+-- the outcome of a head, with the bytes that follow it
 abbrev pub request_of : Origins → RequestHead → List ℕ → Result Request HttpRefusal
 request_of origins head left =
     plan_of origins head.method head.target (map name_and_value head.fields) >>= planned head.target left

@@ -31,7 +31,7 @@ use crate::fault::ReadingFault;
 use crate::head::read_head;
 use crate::path::{batch_in, class_in, console_in, count_in, from_in, path_in};
 use crate::plan::{Plan, plan_in};
-use crate::refusal::{AskFault, HttpRefusal};
+use crate::refusal::{AskFault, HttpRefusal, InvalidPart};
 use crate::routes::{Route, Routes};
 use httparse::spans::{EMPTY_HEADER_SPAN, RequestSpans};
 use opc_io::source::Source;
@@ -122,7 +122,7 @@ fn read_planned<S: Source>(
 {
     let end = spans.len + plan.length as usize;
     if !read_to(source, buf, end)? {
-        return Err(ReadingFault::Refused(HttpRefusal::BadRequest));
+        return Err(ReadingFault::Refused(HttpRefusal::BadRequest(InvalidPart::CutShort)));
     }
     let path = path_in(spans.path.of(buf.as_slice()))?;
     let request = request_at(alloc, plan.route, path, &buf[spans.len..end])?;
@@ -130,10 +130,11 @@ fn read_planned<S: Source>(
 }
 
 /// Reads a request, or finds the first refusal. Nothing but the bytes of its head and its body decides what a request
-/// is. It reads on only if what it read is no whole head and may become one, or has its head and not yet its body. Each
-/// read takes at most 1,024 bytes, and none goes past the end of the body, except the last one that looks for the head.
-/// After a refusal by the head no more is read. If memory is refused or a read fails, the source has given some of its
-/// bytes and no request is known.
+/// is. The contract states which reads take place: nobody knows what a socket has left, and an extra read would wait
+/// for a peer that has nothing more to send. It reads on only if what it read is no whole head and may become one, or
+/// has its head and not yet its body. Each read takes at most 1,024 bytes, since each is a system call, and none goes
+/// past the end of the body, except the last one that looks for the head. After a refusal by the head no more is read.
+/// If an allocation or a read fails, the source has given some of its bytes and no request is known.
 pub fn read_request<S: Source>(
     alloc: Global,
     routes: &Routes,
@@ -150,7 +151,7 @@ pub fn read_request<S: Source>(
     let mut buf = Vec::new(alloc);
     let mut headers = [EMPTY_HEADER_SPAN; MOST_FIELDS];
     let Some(spans) = read_head(source, &mut buf, &mut headers)? else {
-        return Err(ReadingFault::Refused(HttpRefusal::BadRequest));
+        return Err(ReadingFault::Refused(HttpRefusal::BadRequest(InvalidPart::Head)));
     };
     let plan = plan_in(routes, buf.as_slice(), &headers, &spans)?;
     read_planned(alloc, source, &mut buf, &spans, plan)

@@ -1,13 +1,19 @@
 //! Bodies of requests.
-ghost use Rattle.std.specs.Prelude.{◌≡◌, MatchResult, Ok};
-ghost use Rattle.std.specs.Option.{option_map};
+ghost use Rattle.std.specs.Prelude.{◌≡◌, Err, MatchResult, Ok};
 ghost use Rattle.serde_json.specs.View.{view};
 ghost use Rattle.opc_http_requests.specs.Refusals.{Refuses};
-ghost use Rattle.opc_http_requests.specs.BodyValues.{command_in, operation_in, rows_in, text_of, value_in};
+ghost use Rattle.opc_http_requests.specs.BodyValues.{
+  command_in,
+  operation_in,
+  rows_in,
+  text_of,
+  value_in,
+};
 
+use crate::body_key::BodyKey;
 use crate::keys::{has_keys, text_at};
 use crate::operation::operation_of;
-use crate::refusal::{AskFault, BAD_REQUEST, HttpRefusal};
+use crate::refusal::{AskFault, HttpRefusal, InvalidPart};
 use opc_board::text::KeptText;
 use opc_import::fault::ImportFault;
 use opc_import::read::read_policy;
@@ -19,11 +25,13 @@ use serde_json::error::Category;
 use std::alloc::Global;
 use std::str;
 
-fn text_of(value: &Value) -> Option<&str>
-    ensures { option_map (λ s. s.now) result ≡ text_of (view value.now) }
+fn text_of(value: &Value) -> Result<&str, InvalidPart>
+    ensures { MatchResult result (λ text. text_of (view value.now) ≡ Ok text.now)
+        (λ part. text_of (view value.now) ≡ Err part) }
 {
+    let text = text_at(value, BodyKey::Text)?;
     has_keys(value, 1)?;
-    text_at(value, "text")
+    Ok(text)
 }
 
 // The JSON value that some bytes are.
@@ -36,7 +44,7 @@ fn value_in(alloc: Global, body: &[u8]) -> Result<Value, AskFault>
         Err(error) => match error.classify() {
             Category::Memory => Err(AskFault::NoMemory),
             // The bytes are not a JSON value.
-            _ => Err(BAD_REQUEST),
+            _ => Err(AskFault::Refused(HttpRefusal::BadRequest(InvalidPart::Json))),
         },
     }
 }
@@ -47,9 +55,7 @@ pub fn command_in(alloc: Global, body: &[u8]) -> Result<KeptText, AskFault>
         (λ fault. Refuses fault (command_in body.now)) }
 {
     let value = value_in(alloc, body)?;
-    let Some(text) = text_of(&value) else {
-        return Err(BAD_REQUEST);
-    };
+    let text = text_of(&value)?;
     Ok(KeptText::new(alloc, text)?)
 }
 
@@ -59,9 +65,7 @@ pub fn operation_in(alloc: Global, body: &[u8]) -> Result<Operation, AskFault>
         (λ fault. Refuses fault (operation_in body.now)) }
 {
     let value = value_in(alloc, body)?;
-    let Some(op) = operation_of(&value) else {
-        return Err(BAD_REQUEST);
-    };
+    let op = operation_of(&value)?;
     Ok(op)
 }
 
@@ -71,9 +75,9 @@ pub fn rows_in(alloc: Global, body: &[u8]) -> Result<Vec<Row>, AskFault>
         (λ fault. Refuses fault (rows_in body.now)) }
 {
     let Ok(text) = str::from_utf8(body) else {
-        return Err(BAD_REQUEST);
+        return Err(AskFault::Refused(HttpRefusal::BadRequest(InvalidPart::Utf8)));
     };
-    // For the prover alone, which needs the type of a row's console named.
+    // Named for the prover, which otherwise cannot infer the type of a row's console.
     let _nowhere: Option<ConsoleName> = None;
     match read_policy(alloc, text) {
         Ok(rows) => Ok(rows),

@@ -2,7 +2,7 @@
 use crate::refusal::{AskFault, HttpRefusal};
 use opc_io::source::SourceFault;
 
-/// Why no request was read: what was read is refused, a read failed, or out of memory.
+/// Why no request was read: what was read is refused, or a read or an allocation failed.
 #[derive(Clone, Copy, Debug, PartialEq, Eq)]
 pub enum ReadingFault {
     Refused(HttpRefusal),

@@ -5,7 +5,7 @@ ghost use Rattle.httparse.specs.Spans.{IsHeaderWithin, IsWithin, header_bytes, s
 ghost use Rattle.opc_http_requests.specs.Framing.{body_length, is_alike, length_by, number_in, only, values_of};
 
 use crate::number::number_in;
-use crate::refusal::HttpRefusal;
+use crate::refusal::{HttpRefusal, InvalidPart};
 use httparse::spans::{HeaderSpan, Span};
 use std::str;
 
@@ -15,14 +15,14 @@ pub const BODY_LIMIT: u64 = 65536;
 /// The most digits of a length.
 const LENGTH_DIGITS: usize = 9;
 
-// Large and small letters are alike.
+// Upper and lower case are alike.
 pub(crate) fn is_named(found: &[u8], name: &[u8]) -> bool
     ensures { result ≡ is_alike found.now name.now }
 {
     found.eq_ignore_ascii_case(name)
 }
 
-// The value of the only field of a name, if there is one.
+// The value of the only field of a name, if there is one. Several are refused like several lengths.
 pub(crate) fn only_value(
     buf: &[u8],
     headers: &[HeaderSpan],
@@ -38,7 +38,7 @@ pub(crate) fn only_value(
     for header in headers {
         if is_named(header.name.of(buf), name) {
             if found.is_some() {
-                return Err(HttpRefusal::BadRequest);
+                return Err(HttpRefusal::BadRequest(InvalidPart::Length));
             }
             found = Some(header.value);
         }
@@ -60,7 +60,7 @@ fn length_by(value: &[u8]) -> Result<u64, HttpRefusal>
     ensures { result ≡ length_by (number_in 9 value.now) }
 {
     match number_of(value) {
-        None => Err(HttpRefusal::BadRequest),
+        None => Err(HttpRefusal::BadRequest(InvalidPart::Length)),
         Some(n) if n <= BODY_LIMIT => Ok(n),
         Some(_) => Err(HttpRefusal::TooLarge),
     }
@@ -73,11 +73,12 @@ pub fn body_length(buf: &[u8], headers: &[HeaderSpan]) -> Result<u64, HttpRefusa
 {
     match only_value(buf, headers, b"transfer-encoding") {
         Ok(None) => {}
-        // A coding, or two of them: bodies in parts are refused.
-        _ => return Err(HttpRefusal::BadRequest),
+        // One transfer coding, or two: chunked bodies are refused.
+        _ => return Err(HttpRefusal::BadRequest(InvalidPart::Coding)),
     }
-    match only_value(buf, headers, b"content-length")? {
-        None => Ok(0),
-        Some(value) => length_by(value.of(buf)),
+    match only_value(buf, headers, b"content-length") {
+        Ok(None) => Ok(0),
+        Ok(Some(value)) => length_by(value.of(buf)),
+        Err(refusal) => Err(refusal),
     }
 }

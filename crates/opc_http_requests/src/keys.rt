@@ -1,23 +1,28 @@
 //! Keys of a JSON object, each read by itself.
-ghost use Rattle.std.specs.Prelude.{◌≡◌};
-ghost use Rattle.std.specs.Option.{option_map};
+ghost use Rattle.std.specs.Prelude.{◌≡◌, Err, MatchResult, Ok};
 ghost use Rattle.opc_import.specs.Fields.{digest_of};
 ghost use Rattle.opc_names.specs.Spellings.{auths, classes, levels};
 ghost use Rattle.opc_terms.specs.Modes.{modes};
 ghost use Rattle.serde_json.specs.View.{view};
 ghost use Rattle.opc_http_requests.specs.Keys.{
+  console_or_every,
   digest_at,
   digest_in,
+  digest_or_none,
   entry_at,
   flag_at,
   has_keys,
+  member_at,
   members_count,
+  missing,
   name_at,
   spelled_at,
   text_at,
   when_at,
 };
 
+use crate::body_key::BodyKey;
+use crate::refusal::InvalidPart;
 use opc_import::field::{read_digest, read_entry_id, read_name};
 use opc_names::auth::Auth;
 use opc_names::class::Class;
@@ -36,66 +41,98 @@ fn members_count(value: &Value) -> usize
     }
 }
 
-// That an object has this many keys.
-pub(crate) fn has_keys(value: &Value, count: usize) -> Option<()>
+// Checks that an object has this many keys.
+pub(crate) fn has_keys(value: &Value, count: usize) -> Result<(), InvalidPart>
     ensures { result ≡ has_keys count (view value.now) }
 {
     if members_count(value) == count {
-        Some(())
+        Ok(())
     } else {
-        None
+        Err(InvalidPart::OtherKeys)
     }
 }
 
-pub(crate) fn text_at<'a>(value: &'a Value, key: &str) -> Option<&'a str>
-    ensures { option_map (λ s. s.now) result ≡ text_at key.now (view value.now) }
+// The invalid part of a value without this key.
+fn missing(value: &Value, key: BodyKey) -> InvalidPart
+    ensures { result ≡ missing key (view value.now) }
 {
-    value.get(key).and_then(Value::as_str)
+    if value.is_object() {
+        InvalidPart::MissingKey(key)
+    } else {
+        InvalidPart::Object
+    }
 }
 
-pub(crate) fn flag_at(value: &Value, key: &str) -> Option<bool>
-    ensures { result ≡ flag_at key.now (view value.now) }
+fn member_at(value: &Value, key: BodyKey) -> Result<&Value, InvalidPart>
+    ensures { MatchResult result (λ found. member_at key (view value.now) ≡ Ok (view found.now))
+        (λ part. member_at key (view value.now) ≡ Err part) }
 {
-    value.get(key).and_then(Value::as_bool)
+    match value.get(key.text()) {
+        Some(found) => Ok(found),
+        None => Err(missing(value, key)),
+    }
+}
+
+pub(crate) fn text_at(value: &Value, key: BodyKey) -> Result<&str, InvalidPart>
+    ensures { MatchResult result (λ text. text_at key (view value.now) ≡ Ok text.now)
+        (λ part. text_at key (view value.now) ≡ Err part) }
+{
+    match member_at(value, key)?.as_str() {
+        Some(text) => Ok(text),
+        None => Err(InvalidPart::Value(key)),
+    }
+}
+
+pub(crate) fn flag_at(value: &Value, key: BodyKey) -> Result<bool, InvalidPart>
+    ensures { result ≡ flag_at key (view value.now) }
+{
+    let found = member_at(value, key)?;
+    found.as_bool().ok_or(InvalidPart::Value(key))
 }
 
 pub(crate) fn name_at<K: NameKind<N>, const N: usize>(
     value: &Value,
-    key: &str,
-) -> Option<Name<K, N>>
-    ensures { result ≡ name_at K.rule key.now (view value.now) }
+    key: BodyKey,
+) -> Result<Name<K, N>, InvalidPart>
+    ensures { result ≡ name_at K.rule key (view value.now) }
 {
-    read_name(text_at(value, key)?)
+    let text = text_at(value, key)?;
+    read_name(text).ok_or(InvalidPart::Value(key))
 }
 
-pub(crate) fn entry_at(value: &Value, key: &str) -> Option<EntryId>
-    ensures { result ≡ entry_at key.now (view value.now) }
+pub(crate) fn entry_at(value: &Value, key: BodyKey) -> Result<EntryId, InvalidPart>
+    ensures { result ≡ entry_at key (view value.now) }
 {
-    read_entry_id(text_at(value, key)?)
+    let text = text_at(value, key)?;
+    read_entry_id(text).ok_or(InvalidPart::Value(key))
 }
 
-pub(crate) fn class_at(value: &Value, key: &str) -> Option<Class>
-    ensures { result ≡ spelled_at classes key.now (view value.now) }
+pub(crate) fn class_at(value: &Value, key: BodyKey) -> Result<Class, InvalidPart>
+    ensures { result ≡ spelled_at classes key (view value.now) }
 {
-    Class::read(text_at(value, key)?)
+    let text = text_at(value, key)?;
+    Class::read(text).ok_or(InvalidPart::Value(key))
 }
 
-pub(crate) fn level_at(value: &Value, key: &str) -> Option<Level>
-    ensures { result ≡ spelled_at levels key.now (view value.now) }
+pub(crate) fn level_at(value: &Value, key: BodyKey) -> Result<Level, InvalidPart>
+    ensures { result ≡ spelled_at levels key (view value.now) }
 {
-    Level::read(text_at(value, key)?)
+    let text = text_at(value, key)?;
+    Level::read(text).ok_or(InvalidPart::Value(key))
 }
 
-pub(crate) fn auth_at(value: &Value, key: &str) -> Option<Auth>
-    ensures { result ≡ spelled_at auths key.now (view value.now) }
+pub(crate) fn auth_at(value: &Value, key: BodyKey) -> Result<Auth, InvalidPart>
+    ensures { result ≡ spelled_at auths key (view value.now) }
 {
-    Auth::read(text_at(value, key)?)
+    let text = text_at(value, key)?;
+    Auth::read(text).ok_or(InvalidPart::Value(key))
 }
 
-pub(crate) fn mode_at(value: &Value, key: &str) -> Option<Mode>
-    ensures { result ≡ spelled_at modes key.now (view value.now) }
+pub(crate) fn mode_at(value: &Value, key: BodyKey) -> Result<Mode, InvalidPart>
+    ensures { result ≡ spelled_at modes key (view value.now) }
 {
-    Mode::read(text_at(value, key)?)
+    let text = text_at(value, key)?;
+    Mode::read(text).ok_or(InvalidPart::Value(key))
 }
 
 fn digest_in(text: &str) -> Option<[u8; 32]>
@@ -105,10 +142,9 @@ fn digest_in(text: &str) -> Option<[u8; 32]>
 }
 
 // A digest is 64 digits, or null for none.
-pub(crate) fn digest_at(value: &Value, key: &str) -> Option<Option<[u8; 32]>>
-    ensures { result ≡ digest_at key.now (view value.now) }
+fn digest_or_none(value: &Value) -> Option<Option<[u8; 32]>>
+    ensures { result ≡ digest_or_none (view value.now) }
 {
-    let value = value.get(key)?;
     if value.is_null() {
         return Some(None);
     }
@@ -116,14 +152,27 @@ pub(crate) fn digest_at(value: &Value, key: &str) -> Option<Option<[u8; 32]>>
     Some(Some(digest))
 }
 
-// The console that an entry is for alone, or null for every console.
-pub(crate) fn when_at(value: &Value, key: &str) -> Option<Option<ConsoleName>>
-    ensures { result ≡ when_at key.now (view value.now) }
+// The only console that an entry is for, or null for every console.
+fn console_or_every(value: &Value) -> Option<Option<ConsoleName>>
+    ensures { result ≡ console_or_every (view value.now) }
 {
-    let value = value.get(key)?;
     if value.is_null() {
         return Some(None);
     }
     let console = read_name(value.as_str()?)?;
     Some(Some(console))
+}
+
+pub(crate) fn digest_at(value: &Value, key: BodyKey) -> Result<Option<[u8; 32]>, InvalidPart>
+    ensures { result ≡ digest_at key (view value.now) }
+{
+    let found = member_at(value, key)?;
+    digest_or_none(found).ok_or(InvalidPart::Value(key))
+}
+
+pub(crate) fn when_at(value: &Value, key: BodyKey) -> Result<Option<ConsoleName>, InvalidPart>
+    ensures { result ≡ when_at key (view value.now) }
+{
+    let found = member_at(value, key)?;
+    console_or_every(found).ok_or(InvalidPart::Value(key))
 }

@@ -1,4 +1,4 @@
-//! What strictness means to those who run a service.
+//! What strictness means for those who run a service.
 ghost use Rattle.opc_http_requests.specs.Laws.{AsksForTheSame, WebPagesAreForbidden, WhatIsAskedIsFromHere};
 
 /// A strict service forbids what a web page may have sent. It accepts nothing but what is from here, and treats that as

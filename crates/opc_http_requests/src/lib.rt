@@ -3,6 +3,7 @@
 
 pub mod ask;
 mod body;
+pub mod body_key;
 pub mod body_values;
 pub mod fault;
 pub mod framing;

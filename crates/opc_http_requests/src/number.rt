@@ -1,4 +1,4 @@
-//! Numbers without a sign.
+//! Unsigned numbers.
 ghost use Rattle.std.specs.Prelude.{◌≡◌, ◌≤◌};
 ghost use Rattle.std.specs.Char.{is_ascii_digit};
 ghost use Rattle.std.specs.List.{list_all};

@@ -19,161 +19,176 @@ ghost use Rattle.opc_http_requests.specs.Operations.{
   remove,
 };
 
+use crate::body_key::BodyKey;
 use crate::keys::{
     auth_at, class_at, digest_at, entry_at, flag_at, has_keys, level_at, mode_at, name_at, text_at,
     when_at,
 };
+use crate::refusal::InvalidPart;
 use opc_machine::operation::Operation;
 use serde_json::Value;
 
-fn add_user(value: &Value) -> Option<Operation>
+fn add_user(value: &Value) -> Result<Operation, InvalidPart>
     ensures { result ≡ add_user (view value.now) }
 {
+    let op = Operation::AddUser {
+        id: name_at(value, BodyKey::Id)?,
+        special: flag_at(value, BodyKey::Special)?,
+        auditor: flag_at(value, BodyKey::Auditor)?,
+        digest: digest_at(value, BodyKey::Digest)?,
+        restricted: flag_at(value, BodyKey::Restricted)?,
+    };
     has_keys(value, 6)?;
-    Some(Operation::AddUser {
-        id: name_at(value, "id")?,
-        special: flag_at(value, "special")?,
-        auditor: flag_at(value, "auditor")?,
-        digest: digest_at(value, "digest")?,
-        restricted: flag_at(value, "restricted")?,
-    })
+    Ok(op)
 }
 
-fn alt_user(value: &Value) -> Option<Operation>
+fn alt_user(value: &Value) -> Result<Operation, InvalidPart>
     ensures { result ≡ alt_user (view value.now) }
 {
+    let op = Operation::AltUser {
+        id: name_at(value, BodyKey::Id)?,
+        special: flag_at(value, BodyKey::Special)?,
+        auditor: flag_at(value, BodyKey::Auditor)?,
+        revoked: flag_at(value, BodyKey::Revoked)?,
+        digest: digest_at(value, BodyKey::Digest)?,
+        restricted: flag_at(value, BodyKey::Restricted)?,
+    };
     has_keys(value, 7)?;
-    Some(Operation::AltUser {
-        id: name_at(value, "id")?,
-        special: flag_at(value, "special")?,
-        auditor: flag_at(value, "auditor")?,
-        revoked: flag_at(value, "revoked")?,
-        digest: digest_at(value, "digest")?,
-        restricted: flag_at(value, "restricted")?,
-    })
+    Ok(op)
 }
 
-fn del_user(value: &Value) -> Option<Operation>
+fn del_user(value: &Value) -> Result<Operation, InvalidPart>
     ensures { result ≡ del_user (view value.now) }
 {
+    let op = Operation::DelUser {
+        id: name_at(value, BodyKey::Id)?,
+    };
     has_keys(value, 2)?;
-    Some(Operation::DelUser {
-        id: name_at(value, "id")?,
-    })
+    Ok(op)
 }
 
-fn add_group(value: &Value) -> Option<Operation>
+fn add_group(value: &Value) -> Result<Operation, InvalidPart>
     ensures { result ≡ add_group (view value.now) }
 {
+    let op = Operation::AddGroup {
+        name: name_at(value, BodyKey::Name)?,
+    };
     has_keys(value, 2)?;
-    Some(Operation::AddGroup {
-        name: name_at(value, "name")?,
-    })
+    Ok(op)
 }
 
-fn connect(value: &Value) -> Option<Operation>
+fn connect(value: &Value) -> Result<Operation, InvalidPart>
     ensures { result ≡ connect (view value.now) }
 {
+    let op = Operation::Connect {
+        user: name_at(value, BodyKey::User)?,
+        group: name_at(value, BodyKey::Group)?,
+    };
     has_keys(value, 3)?;
-    Some(Operation::Connect {
-        user: name_at(value, "user")?,
-        group: name_at(value, "group")?,
-    })
+    Ok(op)
 }
 
-fn remove(value: &Value) -> Option<Operation>
+fn remove(value: &Value) -> Result<Operation, InvalidPart>
     ensures { result ≡ remove (view value.now) }
 {
+    let op = Operation::Remove {
+        user: name_at(value, BodyKey::User)?,
+        group: name_at(value, BodyKey::Group)?,
+    };
     has_keys(value, 3)?;
-    Some(Operation::Remove {
-        user: name_at(value, "user")?,
-        group: name_at(value, "group")?,
-    })
+    Ok(op)
 }
 
-fn define(value: &Value) -> Option<Operation>
+fn define(value: &Value) -> Result<Operation, InvalidPart>
     ensures { result ≡ define (view value.now) }
 {
+    let op = Operation::RDefine {
+        class: class_at(value, BodyKey::Class)?,
+        pattern: name_at(value, BodyKey::Pattern)?,
+        owner: name_at(value, BodyKey::Owner)?,
+        uacc: level_at(value, BodyKey::Uacc)?,
+        warning: flag_at(value, BodyKey::Warning)?,
+    };
     has_keys(value, 6)?;
-    Some(Operation::RDefine {
-        class: class_at(value, "class")?,
-        pattern: name_at(value, "pattern")?,
-        owner: name_at(value, "owner")?,
-        uacc: level_at(value, "uacc")?,
-        warning: flag_at(value, "warning")?,
-    })
+    Ok(op)
 }
 
-fn alter(value: &Value) -> Option<Operation>
+fn alter(value: &Value) -> Result<Operation, InvalidPart>
     ensures { result ≡ alter (view value.now) }
 {
+    let op = Operation::RAlter {
+        class: class_at(value, BodyKey::Class)?,
+        pattern: name_at(value, BodyKey::Pattern)?,
+        owner: name_at(value, BodyKey::Owner)?,
+        uacc: level_at(value, BodyKey::Uacc)?,
+        warning: flag_at(value, BodyKey::Warning)?,
+    };
     has_keys(value, 6)?;
-    Some(Operation::RAlter {
-        class: class_at(value, "class")?,
-        pattern: name_at(value, "pattern")?,
-        owner: name_at(value, "owner")?,
-        uacc: level_at(value, "uacc")?,
-        warning: flag_at(value, "warning")?,
-    })
+    Ok(op)
 }
 
-fn delete(value: &Value) -> Option<Operation>
+fn delete(value: &Value) -> Result<Operation, InvalidPart>
     ensures { result ≡ delete (view value.now) }
 {
+    let op = Operation::RDelete {
+        class: class_at(value, BodyKey::Class)?,
+        pattern: name_at(value, BodyKey::Pattern)?,
+    };
     has_keys(value, 3)?;
-    Some(Operation::RDelete {
-        class: class_at(value, "class")?,
-        pattern: name_at(value, "pattern")?,
-    })
+    Ok(op)
 }
 
-fn permit(value: &Value) -> Option<Operation>
+fn permit(value: &Value) -> Result<Operation, InvalidPart>
     ensures { result ≡ permit (view value.now) }
 {
+    let op = Operation::Permit {
+        class: class_at(value, BodyKey::Class)?,
+        pattern: name_at(value, BodyKey::Pattern)?,
+        id: entry_at(value, BodyKey::Id)?,
+        level: level_at(value, BodyKey::Level)?,
+        when: when_at(value, BodyKey::When)?,
+    };
     has_keys(value, 6)?;
-    Some(Operation::Permit {
-        class: class_at(value, "class")?,
-        pattern: name_at(value, "pattern")?,
-        id: entry_at(value, "id")?,
-        level: level_at(value, "level")?,
-        when: when_at(value, "when")?,
-    })
+    Ok(op)
 }
 
-fn permit_delete(value: &Value) -> Option<Operation>
+fn permit_delete(value: &Value) -> Result<Operation, InvalidPart>
     ensures { result ≡ permit_delete (view value.now) }
 {
+    let op = Operation::PermitDelete {
+        class: class_at(value, BodyKey::Class)?,
+        pattern: name_at(value, BodyKey::Pattern)?,
+        id: entry_at(value, BodyKey::Id)?,
+        when: when_at(value, BodyKey::When)?,
+    };
     has_keys(value, 5)?;
-    Some(Operation::PermitDelete {
-        class: class_at(value, "class")?,
-        pattern: name_at(value, "pattern")?,
-        id: entry_at(value, "id")?,
-        when: when_at(value, "when")?,
-    })
+    Ok(op)
 }
 
-fn class_active(value: &Value) -> Option<Operation>
+fn class_active(value: &Value) -> Result<Operation, InvalidPart>
     ensures { result ≡ class_active (view value.now) }
 {
+    let op = Operation::ClassActive {
+        class: class_at(value, BodyKey::Class)?,
+        active: flag_at(value, BodyKey::Active)?,
+    };
     has_keys(value, 3)?;
-    Some(Operation::ClassActive {
-        class: class_at(value, "class")?,
-        active: flag_at(value, "active")?,
-    })
+    Ok(op)
 }
 
-fn define_console(value: &Value) -> Option<Operation>
+fn define_console(value: &Value) -> Result<Operation, InvalidPart>
     ensures { result ≡ define_console (view value.now) }
 {
+    let op = Operation::DefineConsole {
+        name: name_at(value, BodyKey::Name)?,
+        auth: auth_at(value, BodyKey::Auth)?,
+        mode: mode_at(value, BodyKey::Mode)?,
+    };
     has_keys(value, 4)?;
-    Some(Operation::DefineConsole {
-        name: name_at(value, "name")?,
-        auth: auth_at(value, "auth")?,
-        mode: mode_at(value, "mode")?,
-    })
+    Ok(op)
 }
 
-fn operation_by(name: &str, value: &Value) -> Option<Operation>
+fn operation_by(name: &str, value: &Value) -> Result<Operation, InvalidPart>
     ensures { result ≡ operation_by name.now (view value.now) }
 {
     match name {
@@ -191,13 +206,13 @@ fn operation_by(name: &str, value: &Value) -> Option<Operation>
         "ClassActive" => class_active(value),
         "DefineConsole" => define_console(value),
         // No other operation exists.
-        _ => None,
+        _ => Err(InvalidPart::Value(BodyKey::Op)),
     }
 }
 
-// The operation that an object with exactly its keys is.
-pub(crate) fn operation_of(value: &Value) -> Option<Operation>
+// The operation that an object with exactly its keys is, or its first invalid key.
+pub(crate) fn operation_of(value: &Value) -> Result<Operation, InvalidPart>
     ensures { result ≡ operation_of (view value.now) }
 {
-    operation_by(text_at(value, "op")?, value)
+    operation_by(text_at(value, BodyKey::Op)?, value)
 }

@@ -58,7 +58,7 @@ fn has_field(buf: &[u8], headers: &[HeaderSpan], name: &[u8]) -> bool
 {
     match only_value(buf, headers, name) {
         Ok(None) => false,
-        // Two fields of this name count as one does.
+        // Two fields of this name count like one.
         _ => true,
     }
 }
@@ -83,7 +83,7 @@ fn names_host(buf: &[u8], headers: &[HeaderSpan], port: u16) -> bool
     }
 }
 
-/// That a request with these fields is accepted.
+/// Checks that a request with these fields is accepted.
 pub fn admitted(origins: Origins, buf: &[u8], headers: &[HeaderSpan]) -> Result<(), HttpRefusal>
     requires { All (IsHeaderWithin (length buf.now)) headers.now }
     ensures { result ≡ admitted origins (map (header_bytes buf.now) headers.now) }
@@ -92,7 +92,7 @@ pub fn admitted(origins: Origins, buf: &[u8], headers: &[HeaderSpan]) -> Result<
         Origins::Only(port) if is_from_page(buf, headers) || !names_host(buf, headers, port) => {
             Err(HttpRefusal::Forbidden)
         }
-        // Either requests are accepted from anywhere, or this one is for here and no web page sent it.
+        // Either requests are accepted from anywhere, or this one is for this computer and no web page sent it.
         _ => Ok(()),
     }
 }

@@ -32,7 +32,7 @@ ghost use Rattle.opc_http_requests.specs.Paths.{
 };
 
 use crate::number::number_in;
-use crate::refusal::{AskFault, BAD_REQUEST, HttpRefusal};
+use crate::refusal::{AskFault, HttpRefusal, InvalidPart};
 use crate::routes::{Route, Routes};
 use opc_import::field::read_name;
 use opc_names::class::Class;
@@ -126,19 +126,19 @@ pub(crate) fn console_in(alloc: Global, path: &str) -> Result<ConsoleName, AskFa
     let bytes = unescaped(alloc, part_at(path, 2).as_bytes())?;
     match name_in(bytes.as_slice()) {
         Some(console) => Ok(console),
-        None => Err(BAD_REQUEST),
+        None => Err(AskFault::Refused(HttpRefusal::BadRequest(InvalidPart::Console))),
     }
 }
 
-// A number from 1 to a limit.
-fn limited(number: Option<u64>, most: u64) -> Result<u32, HttpRefusal>
+// A number from 1 to a limit, as this part of the request.
+fn limited(number: Option<u64>, most: u64, part: InvalidPart) -> Result<u32, HttpRefusal>
     requires { most ≤ 999999999 }
-    ensures { result ≡ required (option_and_then (within 1 most) number) }
+    ensures { result ≡ required part (option_and_then (within 1 most) number) }
 {
     match number {
         Some(n) if 1 <= n && n <= most => Ok(n as u32),
         // There is no number, or it is outside the limits.
-        _ => Err(HttpRefusal::BadRequest),
+        _ => Err(HttpRefusal::BadRequest(part)),
     }
 }
 
@@ -146,26 +146,34 @@ fn limited(number: Option<u64>, most: u64) -> Result<u32, HttpRefusal>
 pub(crate) fn batch_in(path: &str) -> Result<u32, HttpRefusal>
     ensures { result ≡ batch_in path.now }
 {
-    limited(number_in(part_at(path, 4), 9), LAST_BATCH)
+    limited(
+        number_in(part_at(path, 4), 9),
+        LAST_BATCH,
+        InvalidPart::Batch,
+    )
 }
 
 /// The class whose profiles are requested.
 pub(crate) fn class_in(path: &str) -> Result<Class, HttpRefusal>
     ensures { result ≡ class_in path.now }
 {
-    Class::read(part_at(path, 4)).ok_or(HttpRefusal::BadRequest)
+    Class::read(part_at(path, 4)).ok_or(HttpRefusal::BadRequest(InvalidPart::Class))
 }
 
 /// The number from which on the account is requested.
 pub(crate) fn from_in(path: &str) -> Result<u64, HttpRefusal>
     ensures { result ≡ from_in path.now }
 {
-    number_in(part_at(path, 4), 18).ok_or(HttpRefusal::BadRequest)
+    number_in(part_at(path, 4), 18).ok_or(HttpRefusal::BadRequest(InvalidPart::First))
 }
 
 /// How many rows of the account are requested.
 pub(crate) fn count_in(path: &str) -> Result<u32, HttpRefusal>
     ensures { result ≡ count_in path.now }
 {
-    limited(number_in(part_at(path, 5), 4), MOST_LISTED)
+    limited(
+        number_in(part_at(path, 5), 4),
+        MOST_LISTED,
+        InvalidPart::Count,
+    )
 }

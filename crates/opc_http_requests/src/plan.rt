@@ -35,7 +35,7 @@ fn method_text(method: Method) -> &'static str
     }
 }
 
-// That a request has its route's method.
+// Checks that a request has its route's method.
 fn has_method(name: &[u8], route: Route) -> Result<(), HttpRefusal>
     ensures { result ≡ has_method name.now route }
 {

@@ -1,6 +1,42 @@
 //! Refusals of what is not a request.
+use crate::body_key::BodyKey;
 use opc_terms::fault::Why;
 use std::alloc::{AllocError, AllocFailed};
+
+/// The part of a request that is invalid.
+#[derive(Clone, Copy, Debug, PartialEq, Eq)]
+pub enum InvalidPart {
+    /// The first bytes are not a whole head of HTTP, or the head is too long.
+    Head,
+    /// The head states a transfer coding.
+    Coding,
+    /// The length of the body is not a number, or there are several.
+    Length,
+    /// The input ends within the body.
+    CutShort,
+    /// The console of the path.
+    Console,
+    /// The number of its batch.
+    Batch,
+    /// Its class.
+    Class,
+    /// The first number of its listing.
+    First,
+    /// How many rows are listed.
+    Count,
+    /// The body is not JSON.
+    Json,
+    /// The body is not an object.
+    Object,
+    /// The object does not have this key.
+    MissingKey(BodyKey),
+    /// The value of this key is not of its kind.
+    Value(BodyKey),
+    /// The object has all keys of the request, and others.
+    OtherKeys,
+    /// The body is not UTF-8.
+    Utf8,
+}
 
 /// A method that some path has.
 #[derive(Clone, Copy, Debug, PartialEq, Eq)]
@@ -12,9 +48,9 @@ pub enum Method {
 /// Why what was read is not a request.
 #[derive(Clone, Copy, Debug, PartialEq, Eq)]
 pub enum HttpRefusal {
-    /// Head, values of the path or body cannot be read, or the input ends within them.
-    BadRequest,
-    /// A web page can have sent it, and that is not accepted.
+    /// A part of the request is invalid, or the input ends within it. Responses do not say which part.
+    BadRequest(InvalidPart),
+    /// A web page may have sent it, and that is not accepted.
     Forbidden,
     /// No route has this path.
     NotFound,
@@ -26,15 +62,12 @@ pub enum HttpRefusal {
     BadRow { row: u32, why: Why },
 }
 
-/// Why no request was read: it is refused, or out of memory.
+/// Why no request was read: it is refused, or an allocation failed.
 #[derive(Clone, Copy, PartialEq, Eq)]
 pub enum AskFault {
     Refused(HttpRefusal),
     NoMemory,
 }
-
-/// What cannot be read.
-pub const BAD_REQUEST: AskFault = AskFault::Refused(HttpRefusal::BadRequest);
 
 impl From<HttpRefusal> for AskFault {
     ghost use Rattle.std.specs.Prelude.{◌≡◌};
@@ -44,6 +77,18 @@ impl From<HttpRefusal> for AskFault {
 
     fn from(refusal: HttpRefusal) -> AskFault {
         AskFault::Refused(refusal)
+    }
+}
+
+impl From<InvalidPart> for AskFault {
+    ghost use Rattle.std.specs.Prelude.{◌≡◌};
+    ghost use Rattle.opc_http_requests.specs.declared.refusal.AskFault.TheVariants.{Refused};
+    ghost use Rattle.opc_http_requests.specs.declared.refusal.HttpRefusal.TheVariants.{BadRequest};
+
+    ghost from_gives = { λ part fault. fault ≡ Refused (BadRequest part) };
+
+    fn from(part: InvalidPart) -> AskFault {
+        AskFault::Refused(HttpRefusal::BadRequest(part))
     }
 }
 

@@ -37,6 +37,8 @@ impl Model for Routes {
     ghost invariant = { λ routes. routes.router ≡ the_routes };
 }
 
+// What `matchit`, and `httparse` for heads, promise is proved in their own crates. Our definition, `route_of`, cuts the
+// path at its slashes, so a reader need not know the router.
 fn router(alloc: Global) -> Result<Router<Route>, InsertError>
     ensures { IfOk result (λ router. router ≡ the_routes) }
 {
@@ -53,14 +55,14 @@ fn router(alloc: Global) -> Result<Router<Route>, InsertError>
 }
 
 impl Routes {
-    /// The routes, unless out of memory. Requests are accepted from anywhere.
+    /// The routes, unless an allocation fails. Requests are accepted from anywhere.
     pub fn new(alloc: Global) -> Result<Self, NoMemory>
         ensures { IfOk result (λ routes. routes ≡ Any) }
     {
         Routes::from_origins(alloc, Origins::Any)
     }
 
-    /// The routes at a port of this computer, unless out of memory. What a web page can send is not accepted.
+    /// The routes at a port of this computer, unless an allocation fails. What a web page can send is not accepted.
     pub fn strict(alloc: Global, port: u16) -> Result<Self, NoMemory>
         ensures { IfOk result (λ routes. routes ≡ Only port) }
     {
@@ -101,6 +103,6 @@ fn route_in(router: &Router<Route>, path: &str) -> Option<Route>
     }
 }
 
-/// Memory was refused.
+/// An allocation failed.
 #[derive(Clone, Copy, PartialEq, Eq)]
 pub struct NoMemory;

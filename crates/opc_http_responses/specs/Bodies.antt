@@ -24,14 +24,14 @@ use Rattle.opc_http_responses.specs.Statuses.{phrase, refusal_status}
 abbrev pub line_items : List Line → Items
 line_items lines = items_of (map (λ line. string line.text) lines)
 
--- what is done: its lines and its rule
+-- a request that is done: its lines and its rule
 abbrev pub done_value : List Line → List ℕ → Data
 done_value lines rule =
     object (member (codes "lines") (array (line_items lines))
     (member (codes "rule") (string rule)
     (member (codes "status") (string (codes "done")) no_members)))
 
--- what is refused: its code, its rule and its text
+-- a request that is refused: its code, its rule and its text
 abbrev pub refused_value : List ℕ → List ℕ → List ℕ → Data
 refused_value code rule text =
     object (member (codes "code") (string code)
@@ -51,7 +51,7 @@ status_body status = compact_text (refused_value (codes "H" ++ decimal status) (
 -- a bad row is reported as the fault that it is
 abbrev pub refusal_body : HttpRefusal → List ℕ
 refusal_body (BadRow row why) = answer_body (Refused (RowFault row why) None)
-refusal_body BadRequest = status_body (refusal_status BadRequest)
+refusal_body (BadRequest part) = status_body (refusal_status (BadRequest part))
 refusal_body Forbidden = status_body (refusal_status Forbidden)
 refusal_body NotFound = status_body (refusal_status NotFound)
 refusal_body (MethodNotAllowed method) = status_body (refusal_status (MethodNotAllowed method))

@@ -49,7 +49,7 @@ response_of answer = response_text (status_of answer) None (answer_body answer)
 
 abbrev pub allowed : HttpRefusal → Option Method
 allowed (MethodNotAllowed method) = Some method
-allowed BadRequest = None
+allowed (BadRequest part) = None
 allowed Forbidden = None
 allowed NotFound = None
 allowed TooLarge = None

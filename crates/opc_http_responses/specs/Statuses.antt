@@ -17,12 +17,12 @@ use Rattle.opc_http_requests.specs.declared.refusal.HttpRefusal.TheVariants.{
   BadRow,
 }
 
--- from the one code to the other, both included
+-- from one code to the other, both included
 abbrev pub is_within : ℕ → ℕ → ℕ → Bool
 is_within first last code = nat_le first code && nat_le code last
 
--- What cannot be read is a bad request; who may not is forbidden; a console that is not there is not found; what the
--- state does not allow is in conflict with it; the rest are failures of the service.
+-- What cannot be read is a bad request; what the user may not do is forbidden; a console that is not there is not
+-- found; what the state does not allow conflicts with it; the rest are failures of the service.
 abbrev pub status_of_code : ℕ → ℕ
 status_of_code code =
     if is_within 1 6 code || (code == 60) then 400
@@ -40,7 +40,7 @@ status_of (Done lines rule) = 200
 status_of (Refused fault rule) = fault_status fault
 
 abbrev pub refusal_status : HttpRefusal → ℕ
-refusal_status BadRequest = 400
+refusal_status (BadRequest part) = 400
 refusal_status Forbidden = 403
 refusal_status NotFound = 404
 refusal_status (MethodNotAllowed method) = 405

@@ -70,7 +70,7 @@ pub(crate) fn refusal_status(refusal: &HttpRefusal) -> StatusCode
     ensures { result ≡ refusal_status refusal.now }
 {
     match *refusal {
-        HttpRefusal::BadRequest => StatusCode::BAD_REQUEST,
+        HttpRefusal::BadRequest(_) => StatusCode::BAD_REQUEST,
         HttpRefusal::Forbidden => StatusCode::FORBIDDEN,
         HttpRefusal::NotFound => StatusCode::NOT_FOUND,
         HttpRefusal::MethodNotAllowed(_) => StatusCode::METHOD_NOT_ALLOWED,

@@ -11,7 +11,7 @@ const ADD_GROUP: &str = "{\"op\":\"AddGroup\",\"name\":\"DAY\"}";
 
 const COMMAND: &str = "{\"text\":\"D U\"}";
 
-// That a request is read, at once and byte by byte.
+// Tests that a request is read, at once and byte by byte.
 fn expect(rt: &(impl AllocGlobal + Abort), text: &str, wanted: &str) -> Result<(), Fail> {
     match asked(rt.alloc(), text.as_bytes())? {
         Ok(line) => assert_eq!(rt; line.as_str(), wanted),

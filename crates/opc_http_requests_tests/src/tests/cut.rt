@@ -2,7 +2,7 @@
 use super::reading::asked;
 use opc_http_requests::ask::read_request;
 use opc_http_requests::fault::ReadingFault;
-use opc_http_requests::refusal::HttpRefusal;
+use opc_http_requests::refusal::{HttpRefusal, InvalidPart};
 use opc_http_requests::routes::Routes;
 use opc_io::watched::Watched;
 use opc_io_failing::reader::FailingReader;
@@ -13,13 +13,22 @@ use std::test::Fail;
 const COMMAND: &[u8] =
     b"POST /consoles/C1/command HTTP/1.1\r\nContent-Length: 14\r\n\r\n{\"text\":\"D U\"}";
 
+/// The bytes of its body.
+const BODY: usize = 14;
+
 #[test]
 fn a_cut_request_is_refused_wherever_it_is_cut(rt: HostRuntime) -> Result<(), Fail> {
     for count in 0..COMMAND.len() {
         match asked(rt.alloc(), &COMMAND[..count])? {
             Ok(_) => assert!(rt; false),
             Err(fault) => {
-                assert_eq!(rt; fault, ReadingFault::Refused(HttpRefusal::BadRequest));
+                let is_head = count.saturating_add(BODY) < COMMAND.len();
+                let part = if is_head {
+                    InvalidPart::Head
+                } else {
+                    InvalidPart::CutShort
+                };
+                assert_eq!(rt; fault, ReadingFault::Refused(HttpRefusal::BadRequest(part)));
             }
         }
     }
@@ -69,7 +78,8 @@ fn taken(alloc: Global, length: usize) -> Result<(usize, Option<ReadingFault>), 
 fn a_body_is_read_to_its_length_if_at_all(rt: HostRuntime) -> Result<(), Fail> {
     let (count, fault) = taken(rt.alloc(), 65536)?;
     assert_eq!(rt; count, 61 + 65536);
-    assert_eq!(rt; fault, Some(ReadingFault::Refused(HttpRefusal::BadRequest)));
+    let json = HttpRefusal::BadRequest(InvalidPart::Json);
+    assert_eq!(rt; fault, Some(ReadingFault::Refused(json)));
     let (count, fault) = taken(rt.alloc(), 65537)?;
     assert_eq!(rt; count, 61);
     assert_eq!(rt; fault, Some(ReadingFault::Refused(HttpRefusal::TooLarge)));

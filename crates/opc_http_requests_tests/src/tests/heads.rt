@@ -1,7 +1,7 @@
 //! Heads at their limits.
 use super::reading::asked;
 use opc_http_requests::fault::ReadingFault;
-use opc_http_requests::refusal::HttpRefusal;
+use opc_http_requests::refusal::{HttpRefusal, InvalidPart};
 use std::alloc::{AllocError, Global};
 use std::process::Abort;
 use std::test::Fail;
@@ -39,7 +39,10 @@ fn a_head_has_few_bytes_and_fields(rt: HostRuntime) -> Result<(), Fail> {
             }
             Err(fault) => {
                 assert!(rt; !is_read);
-                assert_eq!(rt; fault, ReadingFault::Refused(HttpRefusal::BadRequest));
+                assert_eq!(rt;
+                    fault,
+                    ReadingFault::Refused(HttpRefusal::BadRequest(InvalidPart::Head))
+                );
             }
         }
     }

@@ -56,7 +56,7 @@ fn reported(alloc: Global, request: &Request) -> Result<String, AllocError> {
     }
 }
 
-/// What the bytes ask for, as a line, or why that is nothing.
+/// What the bytes ask for, as a line, or why they are no request.
 pub(super) fn asked<R: Read + Drop>(
     alloc: Global,
     reader: R,

@@ -1,7 +1,8 @@
 //! What is refused, and by which refusal first.
 use super::reading::{asked, get, post};
+use opc_http_requests::body_key::BodyKey;
 use opc_http_requests::fault::ReadingFault;
-use opc_http_requests::refusal::{HttpRefusal, Method};
+use opc_http_requests::refusal::{HttpRefusal, InvalidPart, Method};
 use opc_io_failing::reader::FailingReader;
 use opc_terms::fault::Why;
 use std::process::Abort;
@@ -9,7 +10,7 @@ use std::test::Fail;
 
 const COMMAND: &str = "{\"text\":\"D U\"}";
 
-// That a text is refused so, at once and byte by byte.
+// Tests that a text is refused like this, at once and byte by byte.
 fn expect(rt: &(impl AllocGlobal + Abort), text: &[u8], wanted: HttpRefusal) -> Result<(), Fail> {
     match asked(rt.alloc(), text)? {
         Ok(_) => assert!(rt; false),
@@ -22,6 +23,15 @@ fn expect(rt: &(impl AllocGlobal + Abort), text: &[u8], wanted: HttpRefusal) -> 
     Ok(())
 }
 
+// That this part of a text is invalid.
+fn expect_invalid(
+    rt: &(impl AllocGlobal + Abort),
+    text: &[u8],
+    part: InvalidPart,
+) -> Result<(), Fail> {
+    expect(rt, text, HttpRefusal::BadRequest(part))
+}
+
 #[test]
 fn the_head_comes_first(rt: HostRuntime) -> Result<(), Fail> {
     for text in [
@@ -30,7 +40,7 @@ fn the_head_comes_first(rt: HostRuntime) -> Result<(), Fail> {
         b"GET /consoles/C1/profiles/\x7f HTTP/1.1\r\n\r\n".as_slice(),
         b"GET /consoles/C1/profiles/\xff HTTP/1.1\r\n\r\n".as_slice(),
     ] {
-        expect(&rt, text, HttpRefusal::BadRequest)?;
+        expect_invalid(&rt, text, InvalidPart::Head)?;
     }
     Ok(())
 }
@@ -77,14 +87,15 @@ fn the_method_comes_before_the_length(rt: HostRuntime) -> Result<(), Fail> {
 
 #[test]
 fn the_length_comes_before_the_body(rt: HostRuntime) -> Result<(), Fail> {
+    let coded = "POST /consoles/C1/command HTTP/1.1\r\nTransfer-Encoding: chunked\r\n\r\n";
+    expect_invalid(&rt, coded.as_bytes(), InvalidPart::Coding)?;
     for text in [
-        "POST /consoles/C1/command HTTP/1.1\r\nTransfer-Encoding: chunked\r\n\r\n",
         "POST /consoles/C1/command HTTP/1.1\r\nContent-Length: 14\r\nContent-Length: 14\r\n\r\n{\"text\":\"D U\"}",
         "POST /consoles/C1/command HTTP/1.1\r\nContent-Length: +14\r\n\r\n{\"text\":\"D U\"}",
         "POST /consoles/C1/command HTTP/1.1\r\nContent-Length: 0000000014\r\n\r\n{\"text\":\"D U\"}",
         "GET /consoles/C1/profiles/CONSOLE HTTP/1.1\r\nContent-Length: 5,5\r\n\r\nhello",
     ] {
-        expect(&rt, text.as_bytes(), HttpRefusal::BadRequest)?;
+        expect_invalid(&rt, text.as_bytes(), InvalidPart::Length)?;
     }
     let text = "POST /consoles/C1/command HTTP/1.1\r\nContent-Length: 65537\r\n\r\n";
     expect(&rt, text.as_bytes(), HttpRefusal::TooLarge)
@@ -92,30 +103,33 @@ fn the_length_comes_before_the_body(rt: HostRuntime) -> Result<(), Fail> {
 
 #[test]
 fn values_of_the_path_are_read(rt: HostRuntime) -> Result<(), Fail> {
-    for path in [
-        "/consoles/C/command",
-        "/consoles/9A/command",
-        "/consoles/%411/command",
-        "/consoles/A%2523/command",
-        "/consoles/a1/command",
-        "/consoles/C1/import/0",
-        "/consoles/C1/import/1000000000",
-        "/consoles/C1/import/+7",
-        "/consoles/C1/import/%237",
+    for (path, part) in [
+        ("/consoles/C/command", InvalidPart::Console),
+        ("/consoles/9A/command", InvalidPart::Console),
+        ("/consoles/%411/command", InvalidPart::Console),
+        ("/consoles/A%2523/command", InvalidPart::Console),
+        ("/consoles/a1/command", InvalidPart::Console),
+        ("/consoles/C1/import/0", InvalidPart::Batch),
+        ("/consoles/C1/import/1000000000", InvalidPart::Batch),
+        ("/consoles/C1/import/+7", InvalidPart::Batch),
+        ("/consoles/C1/import/%237", InvalidPart::Batch),
     ] {
         let text = post(rt.alloc(), path, COMMAND)?;
-        expect(&rt, text.as_bytes(), HttpRefusal::BadRequest)?;
+        expect_invalid(&rt, text.as_bytes(), part)?;
     }
-    for path in [
-        "/consoles/C1/profiles/opercmds",
-        "/consoles/C1/account/1000000000000000000/1",
-        "/consoles/C1/account/0/0",
-        "/consoles/C1/account/0/1001",
-        "/consoles/C1/account/0/00001",
-        "/consoles/C1/account/-1/1",
+    for (path, part) in [
+        ("/consoles/C1/profiles/opercmds", InvalidPart::Class),
+        (
+            "/consoles/C1/account/1000000000000000000/1",
+            InvalidPart::First,
+        ),
+        ("/consoles/C1/account/-1/1", InvalidPart::First),
+        ("/consoles/C1/account/0/0", InvalidPart::Count),
+        ("/consoles/C1/account/0/1001", InvalidPart::Count),
+        ("/consoles/C1/account/0/00001", InvalidPart::Count),
     ] {
         let text = get(rt.alloc(), path)?;
-        expect(&rt, text.as_bytes(), HttpRefusal::BadRequest)?;
+        expect_invalid(&rt, text.as_bytes(), part)?;
     }
     Ok(())
 }
@@ -123,7 +137,11 @@ fn values_of_the_path_are_read(rt: HostRuntime) -> Result<(), Fail> {
 #[test]
 fn the_body_comes_last(rt: HostRuntime) -> Result<(), Fail> {
     let no_text = post(rt.alloc(), "/consoles/C1/command", "{\"line\":\"D U\"}")?;
-    expect(&rt, no_text.as_bytes(), HttpRefusal::BadRequest)?;
+    expect_invalid(
+        &rt,
+        no_text.as_bytes(),
+        InvalidPart::MissingKey(BodyKey::Text),
+    )?;
     let no_header = post(rt.alloc(), "/consoles/C1/import/7", "group,,DAY,,,,,,,\n")?;
     let header = HttpRefusal::BadRow {
         row: 0,
@@ -131,5 +149,5 @@ fn the_body_comes_last(rt: HostRuntime) -> Result<(), Fail> {
     };
     expect(&rt, no_header.as_bytes(), header)?;
     let no_batch = post(rt.alloc(), "/consoles/C1/import/0", "group,,DAY,,,,,,,\n")?;
-    expect(&rt, no_batch.as_bytes(), HttpRefusal::BadRequest)
+    expect_invalid(&rt, no_batch.as_bytes(), InvalidPart::Batch)
 }

@@ -1,7 +1,7 @@
 //! What a strict service accepts, and that what a web page can send is refused.
 use super::reading::{asked, asked_strictly};
 use opc_http_requests::fault::ReadingFault;
-use opc_http_requests::refusal::HttpRefusal;
+use opc_http_requests::refusal::{HttpRefusal, InvalidPart};
 use std::alloc::{AllocError, Global};
 use std::process::Abort;
 use std::test::Fail;
@@ -13,7 +13,7 @@ fn listing(alloc: Global, fields: &str) -> Result<String, AllocError> {
     format!(in alloc; "GET /consoles/C1/profiles/OPERCMDS HTTP/1.1\r\n{fields}\r\n")
 }
 
-// That a service accepts a listing with these fields, strict at this port or not.
+// Tests that a service accepts a listing with these fields, strict at this port or not.
 fn expect_taken(
     rt: &(impl AllocGlobal + Abort),
     port: Option<u16>,
@@ -31,7 +31,7 @@ fn expect_taken(
     Ok(())
 }
 
-// That a strict service at this port refuses a request so.
+// Tests that a strict service at this port refuses a request like this.
 fn expect_refused(
     rt: &(impl AllocGlobal + Abort),
     port: u16,
@@ -45,7 +45,7 @@ fn expect_refused(
     Ok(())
 }
 
-// That a listing with these fields is accepted, but not by a strict service at this port.
+// Tests that a listing with these fields is accepted, but not by a strict service at this port.
 fn expect_forbidden(rt: &(impl AllocGlobal + Abort), port: u16, fields: &str) -> Result<(), Fail> {
     let text = listing(rt.alloc(), fields)?;
     expect_refused(rt, port, text.as_str(), FORBIDDEN)?;
@@ -118,6 +118,6 @@ fn only_the_head_comes_first(rt: HostRuntime) -> Result<(), Fail> {
         expect_refused(&rt, 8011, text, FORBIDDEN)?;
     }
     let headless = "GET /consoles/C1/profiles/OPERCMDS HTTP/1.1\r\nOrigin: null\r\n";
-    let none = ReadingFault::Refused(HttpRefusal::BadRequest);
+    let none = ReadingFault::Refused(HttpRefusal::BadRequest(InvalidPart::Head));
     expect_refused(&rt, 8011, headless, none)
 }

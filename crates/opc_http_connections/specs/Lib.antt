@@ -1,2 +1,4 @@
 pub mod Timed
+pub mod Draining
 pub mod Links
+pub mod Removing

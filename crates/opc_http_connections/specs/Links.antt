@@ -3,7 +3,7 @@ use Rattle.std.specs.Prelude.{ℕ, Bool, List, Option, Some, None, Result, Ok, E
 use Rattle.std.specs.declared.io.Error.{Error}
 use Rattle.std.specs.declared.time.Duration.{Duration}
 
--- that waits were limited, what the clock showed, that a read was made, what reads will give and what was written
+-- waits were limited, the clock showed this, a read was made; what reads will give, and what was written
 pub record Link (C K : Type 0) : Type 1 where
   pub limits : C → Duration → Bool → Type 0
   pub shows : K → Result Duration Error → Type 0

@@ -44,8 +44,8 @@ is_interrupted (Ok n) = false
 is_interrupted (Err error) = is_interrupt (error_kind error)
 
 module _ {K : Type 0} (shows : K → Result Duration Error → Type 0) where
-  -- The deadline is this long after what the clock showed, as far as a time can be represented. If there is no limit,
-  -- there is none.
+  -- The deadline is this long after what the clock showed, if that time can be represented. If there is no limit, there
+  -- is none.
   abbrev pub IsDue : K → (limit : Option Duration) → (deadline : Option Duration) → Type 0
   IsDue timer None deadline = deadline ≡ None
   IsDue timer (Some limit) deadline = (time : Duration) × shows timer (Ok time)
@@ -62,8 +62,8 @@ module _ {K : Type 0} (shows : K → Result Duration Error → Type 0) where
       × IsSomeAnd new (λ end. as_nanos end ≡ earlier old (min (as_nanos time + as_nanos longest) max_nanos))
 
   module _ {C : Type 0} (limits : C → Duration → Bool → Type 0) (timer : K) (handle : C) where
-    -- The clock showed a time before the deadline, and waits of the handle were to be limited to what was left then, as
-    -- they could be or not.
+    -- The clock showed a time before the deadline, and a call limited the waits of the handle to what was left then, or
+    -- failed.
     pub record IsTimely (deadline : Duration) (able : Bool) : Type 0 where
       pub time : Duration
       pub shown : shows timer (Ok time)
@@ -84,7 +84,7 @@ module _ {K : Type 0} (shows : K → Result Duration Error → Type 0) where
     IsReady None = ⊤
     IsReady (Some deadline) = IsTimely deadline true
 
-    -- The clock fails, or the deadline is over, or waits can't be limited. So there is a deadline.
+    -- The clock fails, or the deadline is over, or waits cannot be limited. So there is a deadline.
     abbrev pub IsUnready : Option Duration → Error → Type 0
     IsUnready None error = ⊥
     IsUnready (Some deadline) error = shows timer (Err error) ⊎ IsLate deadline error ⊎ IsTimely deadline false
@@ -94,20 +94,20 @@ module _ {K : Type 0} (shows : K → Result Duration Error → Type 0) where
 
   module _ {C : Type 0} (limits : C → Duration → Bool → Type 0) (calls : C → Result ℕ Error → C → Type 0) (timer : K)
       (deadline : Option Duration) where
-    -- One call was made, within what was left. Or that could not be, and no call was made.
+    -- One call was made, within what was left; or that was impossible, and no call was made.
     abbrev pub IsTry : (before : C) → Result ℕ Error → (after : C) → Type 0
     IsTry before answer after =
         (IsReady limits timer before deadline × calls before answer after)
         ⊎ (IsErrAnd answer (λ error. IsUnready limits timer before deadline error) × (after ≡ before))
 
-    -- The last of one or more tries answered like this, and a signal interrupted each of this many before it.
+    -- The last of one or more tries returned this, and a signal interrupted each of this many before it.
     abbrev pub AreTries : (interrupted : ℕ) → (before : C) → Result ℕ Error → (after : C) → Type 0
     AreTries zero before answer after = IsTry before answer after
     AreTries (suc n) before answer after =
         (mid : C) × (first : Result ℕ Error)
         × AreTries n before first mid × (is_interrupted first ≡ true) × IsTry mid answer after
 
-    -- The call was tried again until no signal interrupted it, unless signals interrupted it so often.
+    -- The call was tried again until no signal interrupted it, unless signals interrupted it too often.
     pub record IsTried (before : C) (answer : Result ℕ Error) (after : C) : Type 0 where
       pub interrupted : ℕ
       pub tries : AreTries interrupted before answer after

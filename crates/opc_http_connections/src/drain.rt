@@ -1,12 +1,12 @@
 //! The end of a response.
-ghost use Rattle.std.specs.Prelude.{◌+◌, ◌*◌, ◌≤◌, length};
+ghost use Rattle.std.specs.Prelude.{◌≡◌, ◌+◌, ◌*◌, ◌≤◌, ◌<◌, ◌⊎◌, ◌↔◌, IsTrue, List, ℕ, length};
 ghost use Rattle.opc_io.specs.Reads.{TakesAtMost};
+ghost use Rattle.opc_http_connections.specs.Draining.{IsDrained, IsReadOut};
 
 use crate::connection::Connection;
 use crate::timed::Timed;
 use crate::timer::Timer;
 use opc_io::source::Source;
-use std::net::Shutdown;
 use std::time::Duration;
 
 /// The most bytes of each read of what a peer sent beyond the request.
@@ -23,7 +23,8 @@ const WAIT: u64 = 1;
 /// Reads once and drops what it read; returns whether more may follow.
 fn drain_some<S: Source>(source: &mut S, chunk: &mut [u8]) -> bool
     requires { length chunk.old ≤ CHUNK }
-    ensures { TakesAtMost CHUNK (S.left source.old) (S.left source.new) }
+    ensures few { TakesAtMost CHUNK (S.left source.old) (S.left source.new) }
+    ensures read { (given : List ℕ) × S.gives source.old given source.new × (IsTrue result ↔ 0 < length given) }
 {
     match source.read(chunk) {
         Ok(n) => n > 0,
@@ -33,7 +34,8 @@ fn drain_some<S: Source>(source: &mut S, chunk: &mut [u8]) -> bool
 
 /// Reads on and drops what it read, to the end or to the limit.
 fn drain_more<S: Source>(source: &mut S)
-    ensures { TakesAtMost (MORE_READS * CHUNK) (S.left source.old) (S.left source.new) }
+    ensures few { TakesAtMost (MORE_READS * CHUNK) (S.left source.old) (S.left source.new) }
+    ensures out { IsReadOut S.gives MORE_READS source.old source.new }
 {
     let mut chunk = [0u8; CHUNK];
     for _read in 0..MORE_READS {
@@ -46,7 +48,8 @@ fn drain_more<S: Source>(source: &mut S)
 /// The same from the first read on. Most peers send nothing more, so room for a large read is made only if a small one
 /// was filled in part.
 fn drain_rest<S: Source>(source: &mut S)
-    ensures { TakesAtMost (CHUNK + MORE_READS * CHUNK) (S.left source.old) (S.left source.new) }
+    ensures few { TakesAtMost (CHUNK + MORE_READS * CHUNK) (S.left source.old) (S.left source.new) }
+    ensures out { IsReadOut S.gives (1 + MORE_READS) source.old source.new }
 {
     let mut little = [0u8; LITTLE];
     if drain_some(source, &mut little) {
@@ -58,9 +61,11 @@ fn drain_rest<S: Source>(source: &mut S)
 /// past the deadline. Otherwise the system would reset a connection that has bytes to read, and the peer might lose the
 /// response.
 pub fn drain<C: Connection, K: Timer>(reader: &mut Timed<'_, C, K>)
-    ensures { TakesAtMost (CHUNK + MORE_READS * CHUNK) (C.remaining reader.old.handle) (C.remaining reader.new.handle) }
+    ensures few { TakesAtMost (CHUNK + MORE_READS * CHUNK) (C.remaining reader.old.handle)
+        (C.remaining reader.new.handle) }
+    ensures drained { IsDrained C.limits K.shows C.reads C.remaining C.shuts reader.old reader.new }
 {
-    let shut = reader.handle.shutdown(Shutdown::Write);
+    let shut = reader.handle.shut();
     let hurried = reader.hurry(Duration::from_secs(WAIT));
     if shut.is_ok() && hurried.is_ok() {
         drain_rest(reader);

@@ -12,8 +12,8 @@ pub trait ClientListener {
 
     type Client: Connection;
 
-    /// That a connection was to be accepted, and what came of that. What a function over any listener promises by it
-    /// can only be shown by such a call.
+    /// A call accepted a connection, with its result. Only such a call can show what a function over any listener
+    /// promises by this.
     ghost accepts: { Self → Result Self.Client Error → Type 0 };
 
     /// The connection of the next client.

@@ -1,26 +1,15 @@
-//! The file of a Unix socket. The system's calls for files and sockets promise nothing of what they do, so no clause
-//! here does. `tools/serve sockets` tries what stands at a path, the permissions, and what is left.
-ghost use Rattle.std.specs.Prelude.{◌≡◌, ◌↔◌, IsTrue, Some};
+//! The file of a Unix socket.
+ghost use Rattle.std.specs.Prelude.{◌≡◌, ◌↔◌, IfOk, IsTrue, OnOk};
+ghost use Rattle.opc_http_connections.specs.Removing.{IsCleared, IsRemovedIfMade};
 
+use crate::socket_paths::{FileId, SocketPaths};
 use crate::unix::SocketListener;
-use std::fs::{Files, Permissions};
-use std::io::ErrorKind;
-use std::net::Net;
-use std::os::fd::{AsFd, AsRawFd, OwnedFd};
-use std::os::unix::fs::{FileTypeExt, MetadataExt, PermissionsExt};
-use std::os::unix::net::{SocketAddr, UnixListener, UnixStream};
-use std::{fs, io};
+use std::io;
+use std::os::fd::{AsRawFd, OwnedFd};
+use std::os::unix::net::UnixListener;
 
-/// As many connections wait to be accepted as the system allows.
+/// As many connections may wait to be accepted as the system allows.
 const BACKLOG: i32 = -1;
-
-/// Which file is at a path: its device and its number there. As long as a socket is open, the system gives the number
-/// of its file to no other file, even if that is removed.
-#[derive(Clone, Copy)]
-pub struct FileId {
-    device: u64,
-    number: u64,
-}
 
 /// A socket that has its file, and does not listen yet.
 #[derive(Drop)]
@@ -36,39 +25,28 @@ fn is_made(made: FileId, found: FileId) -> bool
     found.device == made.device && found.number == made.number
 }
 
-/// Which socket is at this path, if one is.
-fn socket_at<N: Files>(net: &N, path: &str) -> Option<FileId> {
-    let Ok(found) = fs::symlink_metadata(net, path) else {
-        return None;
-    };
-    if !found.file_type().is_socket() {
-        return None;
-    }
-    Some(FileId {
-        device: found.dev(),
-        number: found.ino(),
-    })
-}
-
-/// A new socket, whose file is made at this path. Nobody can connect to it before it listens, whatever the permissions
-/// of the file are.
-pub fn make<N: Files + Net>(net: &N, path: &str) -> io::Result<BoundSocket> {
-    let address = SocketAddr::from_pathname(path)?;
-    let descriptor = net.unix_socket()?;
-    net.bind_unix(descriptor.as_fd(), &address)?;
+/// A new socket, whose file is made at this path.
+pub fn make<N: SocketPaths>(net: &N, path: &str) -> io::Result<BoundSocket>
+    ensures { IfOk result (λ bound. N.makes net.now path.now bound.descriptor × N.finds net.now path.now bound.file) }
+{
+    let descriptor = net.make_at(path)?;
     Ok(BoundSocket {
-        file: socket_at(net, path),
+        file: net.find(path),
         descriptor,
     })
 }
 
 /// Gives the file at this path these permissions, whatever the umask is.
-pub fn permit<N: Files>(net: &N, path: &str, mode: u32) -> io::Result<()> {
-    fs::set_permissions(net, path, Permissions::from_mode(mode))
+pub fn permit<N: SocketPaths>(net: &N, path: &str, mode: u32) -> io::Result<()>
+    ensures { OnOk result (N.permits net.now path.now mode) }
+{
+    net.set_mode(path, mode)
 }
 
 /// Lets a socket that has its file listen.
-pub fn listen(socket: BoundSocket) -> io::Result<SocketListener> {
+pub fn listen(socket: BoundSocket) -> io::Result<SocketListener>
+    ensures { IfOk result (λ listener. listener.file ≡ socket.file) }
+{
     let BoundSocket { descriptor, file } = socket;
     if libc::net::listen(descriptor.as_raw_fd(), BACKLOG) < 0 {
         return Err(io::Error::from_raw_os_error(os::errno()));
@@ -77,29 +55,22 @@ pub fn listen(socket: BoundSocket) -> io::Result<SocketListener> {
     Ok(SocketListener { listener, file })
 }
 
-/// Whether the file of a socket is at this path, and nobody listens there. A service that was killed leaves one.
-fn is_left<N: Files + Net>(net: &N, path: &str) -> bool {
-    if socket_at(net, path).is_none() {
-        return false;
-    }
-    match UnixStream::connect(net, path) {
-        Ok(_) => false,
-        Err(error) => error.kind() == ErrorKind::ConnectionRefused,
-    }
-}
-
 /// Removes the file of a socket at this path if nobody listens there; returns whether it did.
-pub fn clear<N: Files + Net>(net: &N, path: &str) -> bool {
-    is_left(net, path) && fs::remove_file(net, path).is_ok()
+pub fn clear<N: SocketPaths>(net: &N, path: &str) -> bool
+    ensures { IsCleared N.finds N.refuses N.removes net.now path.now result }
+{
+    net.find(path).is_some() && net.is_refused(path) && net.remove_left(path)
 }
 
 /// Removes the file at this path if it is the one that was made for this socket.
-pub fn remove<N: Files>(net: &N, path: &str, socket: &SocketListener) {
-    let (Some(made), Some(found)) = (socket.file, socket_at(net, path)) else {
+pub fn remove<N: SocketPaths>(net: &N, path: &str, socket: &SocketListener)
+    ensures { IsRemovedIfMade N.finds N.removes net.now path.now socket.now.file }
+{
+    let (Some(made), Some(found)) = (socket.file, net.find(path)) else {
         return;
     };
     if is_made(made, found) {
-        // (one that is left is replaced by the next service)
-        let _ = fs::remove_file(net, path);
+        // (a file that is left is replaced by the next service)
+        let _ = net.remove_made(path, socket);
     }
 }

@@ -1,5 +1,5 @@
 //! Connections whose reads and writes end by a deadline.
-ghost use Rattle.std.specs.Prelude.{◌≡◌, ◌<◌, IfOk, OnErr, OnOk, Some, false, if◌then◌else◌, is_err, length, true};
+ghost use Rattle.std.specs.Prelude.{◌≡◌, ◌<◌, Err, IfErr, IfOk, OnErr, OnOk, Some, false, if◌then◌else◌, is_err, length, true};
 ghost use Rattle.std.specs.Io.{ReadsAtMost, WritesAtMost};
 ghost use Rattle.std.specs.Io.KnownBytes.{Consumes, ReadConsumes, WriteAppends};
 ghost use Rattle.opc_io.specs.Calls.{Writes};
@@ -29,7 +29,7 @@ const AGAIN: u32 = 1_000_000_000;
 pub struct Timed<'a, C, K> {
     pub handle: C,
     pub timer: &'a K,
-    /// A time of the timer. Without one, calls wait as long as it takes.
+    /// A time of the timer. Without a deadline, calls wait as long as they must.
     pub deadline: Option<Duration>,
     pub failed: bool,
 }
@@ -145,6 +145,7 @@ impl<C: Connection, K: Timer> Timed<'_, C, K> {
             (IsHurried K.shows longest self.old.timer.now self.old.deadline self.new.deadline) }
         ensures same { self.new ≡ record self.old { deadline = self.new.deadline } }
         ensures failed { OnErr result (self.new ≡ self.old) }
+        ensures unknown { IfErr result (λ error. K.shows self.old.timer.now (Err error)) }
     {
         let soon = self.timer.time()?.saturating_add(longest);
         let deadline = match self.deadline {
@@ -184,7 +185,7 @@ impl<C: Connection, K: Timer> Sink for Timed<'_, C, K> {
 
     ghost has_failed = { λ t. t.failed };
 
-    /// Writes by the deadline, and remembers whether that failed, or took no byte.
+    /// Writes by the deadline, and remembers whether that failed or took no byte.
     fn write(&mut self, bytes: &[u8]) -> io::Result<usize>
         ensures bound { WritesAtMost result bytes.now }
         ensures some { 0 < length bytes.now → IfOk result (λ n. 0 < n) }

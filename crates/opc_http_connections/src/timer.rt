@@ -9,14 +9,13 @@ use std::io::ErrorKind;
 use std::rt::Clock;
 use std::time::Duration;
 
-/// A clock whose time does not go back: the time since a start of its own.
+/// A monotonic clock: the time since a start of its own.
 pub trait Timer {
     ghost use Rattle.std.specs.Prelude.{Result};
     ghost use Rattle.std.specs.declared.io.Error.{Error};
     ghost use Rattle.std.specs.declared.time.Duration.{Duration};
 
-    /// That the clock was read, and what it showed. What a function over any timer promises by it can only be shown by
-    /// such a reading.
+    /// The clock was read, and showed this. Only such a reading can show what a function over any timer promises by it.
     ghost shows: { Self → Result Duration Error → Type 0 };
 
     fn time(&self) -> io::Result<Duration>
@@ -34,7 +33,7 @@ impl<H: Clock> Timer for H {
     }
 }
 
-/// The end of a time that begins now; none if there is no limit.
+/// The deadline this long after now; none if there is no limit.
 pub fn deadline_after<K: Timer>(timer: &K, limit: Option<Duration>) -> io::Result<Option<Duration>>
     ensures due { IfOk result (λ deadline. IsDue K.shows timer.now limit deadline) }
     ensures failed { IfErr result (λ error. IsSomeAnd limit (λ _. K.shows timer.now (Err error))) }
@@ -45,7 +44,7 @@ pub fn deadline_after<K: Timer>(timer: &K, limit: Option<Duration>) -> io::Resul
     }
 }
 
-/// What is left until a deadline at a time before it, or that it is over.
+/// The time left until a deadline, or that it is over.
 pub(crate) fn left_until(deadline: Duration, time: Duration) -> io::Result<Duration>
     ensures left { IfOk result (λ left. (as_nanos time + as_nanos left ≡ as_nanos deadline) × (0 < as_nanos left)) }
     ensures over { IfErr result

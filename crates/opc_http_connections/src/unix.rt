@@ -3,10 +3,10 @@ ghost use Rattle.std.specs.Prelude.{⊤};
 
 use crate::connection::Connection;
 use crate::listener::ClientListener;
-use crate::socket_file::FileId;
+use crate::socket_paths::FileId;
 use std::io;
 use std::io::{Read, Write};
-use std::net::{OpenStream, Shutdown};
+use std::net::Shutdown;
 use std::os::unix::net::{UnixListener, UnixStream};
 use std::time::Duration;
 
@@ -32,37 +32,25 @@ impl Write for UnixClient {
     }
 }
 
-impl OpenStream for UnixClient {
-    fn shutdown(&self, how: Shutdown) -> io::Result<()> {
-        self.stream.shutdown(how)
-    }
-
-    fn set_read_timeout(&self, longest: Option<Duration>) -> io::Result<()> {
-        self.stream.set_read_timeout(longest)
-    }
-
-    fn set_write_timeout(&self, longest: Option<Duration>) -> io::Result<()> {
-        self.stream.set_write_timeout(longest)
-    }
-
-    fn try_clone(&self) -> io::Result<UnixClient> {
-        let stream = self.stream.try_clone()?;
-        Ok(UnixClient { stream })
-    }
-}
-
 impl Connection for UnixClient {
     ghost limits = { λ _ _ _. ⊤ };
 
     ghost clones = { λ _ _. ⊤ };
 
+    ghost shuts = { λ _ _. ⊤ };
+
     fn limit_waits(&self, longest: Duration) -> io::Result<()> {
-        self.set_read_timeout(Some(longest))?;
-        self.set_write_timeout(Some(longest))
+        self.stream.set_read_timeout(Some(longest))?;
+        self.stream.set_write_timeout(Some(longest))
     }
 
     fn another(&self) -> io::Result<UnixClient> {
-        self.try_clone()
+        let stream = self.stream.try_clone()?;
+        Ok(UnixClient { stream })
+    }
+
+    fn shut(&self) -> io::Result<()> {
+        self.stream.shutdown(Shutdown::Write)
     }
 }
 

@@ -1,3 +1,4 @@
 mod Loaded
+mod Numbered
 pub mod Replies
 pub mod Strictness

@@ -1,4 +1,4 @@
--- A request that is handled after a load.
+-- A request that is handled after a load, or before one.
 use Rattle.std.proofs.Common.{◌≡◌, ◌⊎◌, ℕ, inl, inr}
 use Rattle.opc_state.specs.Changes.{IsKept}
 use Rattle.opc_state.specs.Meaning.{Meaning}
@@ -25,4 +25,20 @@ module _ {T : Type 0} (m : Meaning T) (old mid new : T) (kept : IsKept m old mid
     crash = λ left l. may_leave s (after s moment r (outcome s r)) left (h.crash left l);
     idle = λ same left l. kept.crash left (h.idle same left l);
     acknowledged = λ answered. acknowledged s h.next (h.acknowledged answered);
+  }
+
+module _ {T : Type 0} (m : Meaning T) (old mid new : T) (kept : IsKept m mid new) where
+  still : (s next : State) → IsAcknowledged m old mid s next → IsAcknowledged m old new s next
+  still s next (inl alone) = inl (λ left l. alone left (kept.crash left l))
+  still s next (inr (same, before)) = inr (same, λ left l. before left (kept.crash left l))
+
+  pub handled_before : m.is_sure new → (s : State) (moment : ℕ) (r : Input) (answer : Answer) → IsHandled m old mid s moment r answer
+      → IsHandled m old new s moment r answer
+  handled_before sure s moment r answer h = record {
+    next = h.next;
+    step = h.step;
+    represented = kept.same sure h.next h.represented;
+    crash = λ left l. h.crash left (kept.crash left l);
+    idle = λ same left l. h.idle same left (kept.crash left l);
+    acknowledged = λ answered. still s h.next (h.acknowledged answered);
   }

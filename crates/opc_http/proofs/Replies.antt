@@ -9,7 +9,7 @@ use Rattle.opc_http_requests.specs.Faults as faults
 use Rattle.opc_http_requests.specs.declared.fault.ReadingFault.{ReadingFault}
 use Rattle.opc_http_requests.specs.declared.fault.ReadingFault.TheVariants as reading
 use Rattle.opc_state.specs.Meaning.{Meaning}
-use Rattle.opc_http.specs.Exchange.{IsCutOff, IsFaulty, IsServed, IsReported, Replies, Reply, is_read}
+use Rattle.opc_http.specs.Exchange.{IsCutOff, IsFaulty, IsReplyWritten, IsServed, Replies, Reply, is_read}
 use Rattle.opc_http.specs.Told.{IsWritten}
 use Rattle.opc_http.specs.declared.exchanging.LinkFault.{LinkFault}
 use Rattle.opc_http.specs.declared.exchanging.LinkFault.TheVariants as fault
@@ -19,7 +19,7 @@ module _ (origins : Origins) {T K : Type 0} (m : Meaning T) (held : K → Option
     (left : Option (List ℕ)) (before after : K) (old new : T) (moment : ℕ) where
   -- a reply that is reported is served
   pub served : (reply : Reply) → Replies origins m left old new moment reply
-      → (res : Result Served LinkFault) → IfOk res (IsReported held reply before after)
+      → (res : Result Served LinkFault) → IfOk res (IsReplyWritten held reply before after)
       → IfOk res (IsServed origins m held left before after old new moment)
   served reply replies (Ok done) reported = record { reply = reply; replies = replies; reported = reported }
   served reply replies (Err why) reported = tt
@@ -53,12 +53,12 @@ pub refused_read : (fault : ReadingFault) (why : HttpRefusal) → fault ≡ read
     → new ≡ (if faults.is_read {A = Request} (Err fault) then true else old) → new ≡ old
 refused_read fault why is old new h = rw is at h
 
--- what failed of a reader or a writer of which nothing had failed before is what is reported
+-- if no call of a reader or a writer had failed before, the failed one is what is reported
 pub only_failed : (reported old new : Bool) → old ≡ false → new ≡ (if reported then true else old) → new ≡ reported
 only_failed true old new fine is = is
 only_failed false old new fine is = is ∙ fine
 
--- what is told has what all that is told has, and if nothing is, there is nothing to show
+-- what holds of all that is logged holds of what is logged, and if nothing is, there is nothing to show
 pub entry_told : {A : Type 0} (has : A → Type 0) (is_told : Bool) (entry : A) → (is_told ≡ true → has entry)
     → IfSome (then_some is_told entry) has
 entry_told has true entry is = is refl
@@ -70,7 +70,7 @@ told_if false entry = refl
 
 -- A reply that is reported or cut off was written, by what its writer holds.
 pub written : {K : Type 0} (held : K → Option (List ℕ)) (reply : Reply) (before after : K)
-    (res : Result Served LinkFault) → IfOk res (IsReported held reply before after) → IfErr res (IsCutOff held reply before after)
+    (res : Result Served LinkFault) → IfOk res (IsReplyWritten held reply before after) → IfErr res (IsCutOff held reply before after)
     → IsWritten reply (held before) (held after) res
 written held reply before after (Ok done) reported cut =
     record { written = reported.written; status = reported.status; handled = reported.handled }

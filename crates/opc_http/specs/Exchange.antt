@@ -1,4 +1,4 @@
--- One exchange: what some bytes ask for, what is replied to it, and what happens to the tables.
+-- One exchange: what some bytes ask for, the reply to it, and what happens to the tables.
 use Rattle.std.specs.Prelude.{◌≡◌, ℕ, Bool, true, false, List, Option, Result, Ok, Err, IfSome, is_ok}
 use Rattle.std.specs.Io.KnownBytes.{Appends}
 use Rattle.opc_io.specs.Writes.{AppendsPrefix}
@@ -17,7 +17,7 @@ use Rattle.opc_http.specs.declared.exchanging.LinkFault.{LinkFault}
 use Rattle.opc_http.specs.declared.exchanging.LinkFault.TheVariants as fault
 use Rattle.opc_http.specs.declared.exchanging.Served.{Served}
 
--- what is replied: the answer to a request, or the refusal of what is not one
+-- the reply: the answer to a request, or the refusal of what is not one
 abbrev pub Reply : Type 0
 Reply = Result Answer HttpRefusal
 
@@ -44,19 +44,19 @@ is_write (Err fault.Read) = false
 is_write (Err (fault.Write handled)) = true
 is_write (Err (fault.NoMemory handled)) = false
 
--- the bytes that the reader has left, if they are known, ask for this, and for nothing else, with requests accepted
+-- the bytes that the reader has left, if they are known, ask for this, and for nothing else, if requests are accepted
 -- from there
 abbrev pub IsAsked : Origins → Option (List ℕ) → Result Request HttpRefusal → Type 0
 IsAsked origins left asked = IfSome left (λ all. AsksOnly origins all asked)
 
 module _ {K : Type 0} (held : K → Option (List ℕ)) where
   -- The response was written, whole, and this is answered.
-  pub record IsReported (reply : Reply) (before after : K) (served : Served) : Type 0 where
+  pub record IsReplyWritten (reply : Reply) (before after : K) (served : Served) : Type 0 where
     pub written : Appends (held before) (held after) (reply_bytes reply)
     pub status : served.status ≡ reply_status reply
     pub handled : served.handled ≡ is_ok reply
 
-  -- No more than some first bytes of the response were written, and nothing if there was no memory for it.
+  -- No more than some first bytes of the response were written, and nothing if its allocation failed.
   abbrev pub IsCutOff : Reply → K → K → LinkFault → Type 0
   IsCutOff reply before after fault.Read = ⊥
   IsCutOff reply before after (fault.Write handled) =
@@ -64,35 +64,35 @@ module _ {K : Type 0} (held : K → Option (List ℕ)) where
   IsCutOff reply before after (fault.NoMemory handled) = (after ≡ before) × (handled ≡ is_ok reply)
 
 module _ (origins : Origins) {T : Type 0} (m : Meaning T) where
-  -- The request that is asked for was handled once, with this answer: a step of the access machine. What a crash may
-  -- leave depends on that answer.
+  -- The request was handled once, with this answer: a step of the access machine. What a crash may leave depends on
+  -- that answer.
   pub record IsOneStep (left : Option (List ℕ)) (old new : T) (moment : ℕ) (answer : Answer) : Type 0 where
     pub request : Request
     pub asked : IsAsked origins left (Ok request)
     pub handled : m.is_sure new → (s : State) → m.represents old s
         → IsHandled m old new s moment (input_of request) answer
 
-  -- The reply is the one to what is asked. If that is not a request, the tables are as they were.
+  -- The reply is the one to what is requested. If that is not a request, the tables are as they were.
   abbrev pub Replies : Option (List ℕ) → T → T → ℕ → Reply → Type 0
   Replies left old new moment (Ok answer) = IsOneStep left old new moment answer
   Replies left old new moment (Err refusal) = IsAsked origins left (Err refusal) × (new ≡ old)
 
   module _ {K : Type 0} (held : K → Option (List ℕ)) where
-    -- The reply to what is asked was written, whole.
+    -- The reply to what is requested was written, whole.
     pub record IsServed (left : Option (List ℕ)) (before after : K) (old new : T) (moment : ℕ) (served : Served) : Type
         0 where
       pub reply : Reply
       pub replies : Replies left old new moment reply
-      pub reported : IsReported held reply before after served
+      pub reported : IsReplyWritten held reply before after served
 
-    -- The reply to what is asked was not written, or not whole.
+    -- The reply to what is requested was not written, or not whole.
     pub record IsUnserved (left : Option (List ℕ)) (before after : K) (old new : T) (moment : ℕ)
         (fault : LinkFault) : Type 0 where
       pub reply : Reply
       pub replies : Replies left old new moment reply
       pub cut_off : IsCutOff held reply before after fault
 
-    -- What a fault leaves: if nothing was read whole, or there was no memory and no request was handled, all is as it
+    -- What a fault leaves: if nothing was read whole, or an allocation failed and no request was handled, all is as it
     -- was.
     abbrev pub IsFaulty : Option (List ℕ) → K → K → T → T → ℕ → LinkFault → Type 0
     IsFaulty left before after old new moment fault.Read = (after ≡ before) × (new ≡ old)

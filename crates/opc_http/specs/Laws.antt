@@ -1,4 +1,4 @@
--- What an exchange with a web page comes to if a service is strict.
+-- The outcome of an exchange with a web page if a service is strict.
 use Rattle.std.specs.Prelude.{◌≡◌, ℕ, false, List, Option, Some}
 use Rattle.std.specs.Io.KnownBytes.{Appends}
 use Rattle.opc_http_requests.specs.declared.origins.Origins.TheVariants.{Only}

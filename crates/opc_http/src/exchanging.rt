@@ -19,7 +19,7 @@ ghost use Rattle.std.specs.Io.KnownBytes.{Appends};
 ghost use Rattle.opc_io.specs.Reads.{ReadsOnly, TakesAtMost};
 ghost use Rattle.opc_io.specs.Writes.{AppendsPrefix};
 ghost use Rattle.opc_http_requests.specs.Asked.{MayRead, StopsAtEnd};
-ghost use Rattle.opc_http.specs.Exchange.{IsCutOff, IsFaulty, IsServed, IsReported, is_read, is_write};
+ghost use Rattle.opc_http.specs.Exchange.{IsCutOff, IsFaulty, IsReplyWritten, IsServed, is_read, is_write};
 ghost use Rattle.opc_http.specs.Told.{IsEntry};
 
 use crate::telling::{Exchanged, answer, told};
@@ -75,7 +75,7 @@ fn respond<K: Sink>(sink: &mut K, response: &Response, handled: bool) -> Result<
 
 // Writes the response to an answer.
 fn send_answer<K: Sink>(alloc: Global, sink: &mut K, answer: &Answer) -> Result<Served, LinkFault>
-    ensures reported { IfOk result (IsReported K.held (Ok answer.now) sink.old sink.new) }
+    ensures reported { IfOk result (IsReplyWritten K.held (Ok answer.now) sink.old sink.new) }
     ensures cut_off { IfErr result (IsCutOff K.held (Ok answer.now) sink.old sink.new) }
     ensures write { K.has_failed sink.new ≡ (if is_write result then true else K.has_failed sink.old) }
 {
@@ -91,7 +91,7 @@ fn send_refusal<K: Sink>(
     sink: &mut K,
     refusal: &HttpRefusal,
 ) -> Result<Served, LinkFault>
-    ensures reported { IfOk result (IsReported K.held (Err refusal.now) sink.old sink.new) }
+    ensures reported { IfOk result (IsReplyWritten K.held (Err refusal.now) sink.old sink.new) }
     ensures cut_off { IfErr result (IsCutOff K.held (Err refusal.now) sink.old sink.new) }
     ensures write { K.has_failed sink.new ≡ (if is_write result then true else K.has_failed sink.old) }
 {
@@ -102,7 +102,7 @@ fn send_refusal<K: Sink>(
 }
 
 /// Reads one request of at most 73,728 bytes, lets the gate handle it, and writes its response, which is built whole
-/// before its first byte is written. What is not a request is refused, and the gate is not asked. It reads on only if
+/// before its first byte is written. What is not a request is refused, without a call of the gate. It reads on only if
 /// the head or its body is not there yet, and a read that fails ends the exchange: that is reported, and nothing is
 /// answered. No call of the reader or the writer may have failed before, so that a failure that is reported is one of
 /// this exchange.
@@ -130,8 +130,8 @@ pub fn exchange<T: Tables, S: Source, K: Sink>(
     exchange_told(alloc, routes, source, sink, gate, moment, false).served
 }
 
-/// Does what `exchange` does, and if `is_told` it also returns what a log tells of it. For that it loads for whom the
-/// console acts, before the request is handled.
+/// Does what `exchange` does, and if `is_told` it also returns the log entry. For that it loads for whom the console
+/// acts, before the request is handled, and after it the number of its row of the account.
 pub fn exchange_told<T: Tables, S: Source, K: Sink>(
     alloc: Global,
     routes: &Routes,
@@ -162,18 +162,35 @@ pub fn exchange_told<T: Tables, S: Source, K: Sink>(
             let handled = answer(alloc, gate, moment, &request, is_told);
             let served = send_answer(alloc, sink, &handled.answer);
             let reply = Some(Ok(handled.answer));
-            told(is_told, moment, Some(request), handled.user, reply, served)
+            told(
+                is_told,
+                moment,
+                Some(request),
+                handled.user,
+                reply,
+                handled.row,
+                served,
+            )
         }
         Err(ReadingFault::Refused(refusal)) => {
             let served = send_refusal(alloc, sink, &refusal);
-            told(is_told, moment, None, Ok(None), Some(Err(refusal)), served)
+            told(
+                is_told,
+                moment,
+                None,
+                Ok(None),
+                Some(Err(refusal)),
+                Ok(None),
+                served,
+            )
         }
         Err(ReadingFault::Read) => {
-            told(is_told, moment, None, Ok(None), None, Err(LinkFault::Read))
+            let served = Err(LinkFault::Read);
+            told(is_told, moment, None, Ok(None), None, Ok(None), served)
         }
         Err(ReadingFault::NoMemory) => {
             let served = Err(LinkFault::NoMemory { handled: false });
-            told(is_told, moment, None, Ok(None), None, served)
+            told(is_told, moment, None, Ok(None), None, Ok(None), served)
         }
     }
 }

@@ -1,4 +1,4 @@
-//! What an exchange with a web page comes to if a service is strict.
+//! The outcome of an exchange with a web page if a service is strict.
 ghost use Rattle.opc_http.specs.Laws.{WebPagesChangeNothing};
 
 use opc_io::sink::Sink;

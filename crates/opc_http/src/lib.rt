@@ -1,6 +1,6 @@
-//! One exchange over HTTP: a request is read and handled, and its response is written, with what a log tells of it, if
-//! that is asked for. It re-exports what an exchange takes: the routes, and what remembers whether a reader or a writer
-//! failed, with a reader and a writer that fail for tests.
+//! One exchange over HTTP: a request is read and handled, and its response is written, with its log entry, if one is
+//! requested. It re-exports what an exchange takes: the routes, and what remembers whether a reader or a writer failed,
+//! with a reader and a writer that fail for tests.
 #![tactic(auto)]
 
 mod exchanging;

@@ -1,10 +1,11 @@
-//! What a log tells of an exchange, if that is asked for.
+//! The log entry of an exchange, if one is requested.
 ghost use Rattle.std.specs.Bool.{then_some};
-ghost use Rattle.std.specs.Prelude.{◌≡◌, IfOk, true};
+ghost use Rattle.std.specs.Prelude.{◌≡◌, ◌&&◌, IfOk, None, Some, if◌then◌else◌, length, true};
 ghost use Rattle.opc_machine.specs.Inputs.{input_of};
 ghost use Rattle.opc_machine.specs.Machine.{user_acting};
 ghost use Rattle.opc_gate.specs.Handling.{IsHandled};
-ghost use Rattle.opc_http.specs.Told.{status_in};
+ghost use Rattle.opc_http.specs.Told.{IsNumbered, has_row, status_in};
+ghost use Rattle.opc_state.specs.Asked.{Loads};
 ghost use Rattle.opc_state.specs.Changes.{IsKept};
 ghost use Rattle.opc_state.specs.State.{State};
 
@@ -15,10 +16,12 @@ use opc_http_requests::refusal::HttpRefusal;
 use opc_machine::request::{Answer, Request};
 use opc_names::name::UserId;
 use opc_state::tables::Tables;
+use opc_terms::fault::Fault;
+use opc_terms::rule::Rule;
 use opc_terms::store_fault::StoreFault;
 use std::alloc::Global;
 
-/// What an exchange came to, and what a log tells of it, if that was asked for.
+/// The outcome of an exchange, and its log entry, if one was requested.
 #[derive(Drop)]
 pub struct Exchanged {
     pub served: Result<Served, LinkFault>,
@@ -28,9 +31,11 @@ pub struct Exchanged {
 /// A request that was handled.
 #[derive(Drop)]
 pub(crate) struct Answered {
-    /// For whom its console acted before it, if that was asked for and could be loaded.
+    /// For whom its console acted before it, if that was requested and could be loaded.
     pub(crate) user: Result<Option<UserId>, StoreFault>,
     pub(crate) answer: Answer,
+    /// The number of its row of the account, if that was requested, it has one, and the number could be loaded.
+    pub(crate) row: Result<Option<u64>, StoreFault>,
 }
 
 fn status_in(served: &Result<Served, LinkFault>) -> Option<u16>
@@ -42,7 +47,7 @@ fn status_in(served: &Result<Served, LinkFault>) -> Option<u16>
     }
 }
 
-// For whom the console of a request acts, if that is to be told.
+// For whom the console of a request acts, if that is to be logged.
 fn acting_user<T: Tables>(
     alloc: Global,
     gate: &mut Gate<T>,
@@ -60,7 +65,42 @@ fn acting_user<T: Tables>(
     }
 }
 
-// Handles a request, and says for whom its console acted before it, if that is to be told.
+// Whether the account gets a row for an answer: for a refusal, and for what only a warning let pass.
+fn has_row(answer: &Answer) -> bool
+    ensures { result ≡ has_row answer.now }
+{
+    match answer {
+        Answer::Done {
+            rule: Some(Rule::Profile { warned, .. }),
+            ..
+        } => *warned,
+        // Only a profile can warn.
+        Answer::Done { .. } => false,
+        // A request that is aborted has no row.
+        Answer::Refused { fault, .. } => *fault != Fault::NoMemory && *fault != Fault::Store,
+    }
+}
+
+// The number of the row that the account got for an answer, if it got one and that is to be logged.
+fn row_of<T: Tables>(
+    alloc: Global,
+    gate: &mut Gate<T>,
+    answer: &Answer,
+    is_told: bool,
+) -> Result<Option<u64>, StoreFault>
+    ensures { Loads T.meaning gate.old gate.new result
+        (λ s row. row ≡ (if is_told && has_row answer.now then Some (length s.account) else None)) }
+{
+    if is_told && has_row(answer) {
+        Ok(Some(gate.account_length(alloc)?))
+    } else {
+        Ok(None)
+    }
+}
+
+// Handles a request, and returns for whom its console acted before it, and which row of the account is its own, if that
+// is to be logged. The answer states neither, so one call of the gate loads the user before the request, and one the
+// number of the row after it.
 pub(crate) fn answer<T: Tables>(
     alloc: Global,
     gate: &mut Gate<T>,
@@ -73,19 +113,23 @@ pub(crate) fn answer<T: Tables>(
         → IsHandled T.meaning gate.old gate.new s moment (input_of request.now) result.answer }
     ensures user { is_told ≡ true → T.meaning.is_sure gate.new → (s : State) → T.meaning.represents gate.old s
         → IfOk result.user (λ u. u ≡ user_acting s (input_of request.now)) }
+    ensures row { is_told ≡ true → T.meaning.is_sure gate.new → (s : State) → T.meaning.represents gate.old s
+        → IfOk result.row (IsNumbered T.meaning gate.new s moment (input_of request.now) result.answer) }
 {
     let user = acting_user(alloc, gate, request, is_told);
     let answer = gate.handle(alloc, moment, request);
-    Answered { user, answer }
+    let row = row_of(alloc, gate, &answer, is_told);
+    Answered { user, answer, row }
 }
 
-// What an exchange came to that ended so, with its entry if it is to be told.
+// The outcome of an exchange that ended like this, with its entry if it is to be logged.
 pub(crate) fn told(
     is_told: bool,
     moment: u64,
     request: Option<Request>,
     user: Result<Option<UserId>, StoreFault>,
     reply: Option<Result<Answer, HttpRefusal>>,
+    row: Result<Option<u64>, StoreFault>,
     served: Result<Served, LinkFault>,
 ) -> Exchanged
     ensures served { result.served ≡ served }
@@ -94,6 +138,7 @@ pub(crate) fn told(
       request = request;
       user = user;
       reply = reply;
+      row = row;
       status = status_in served;
     }) }
 {
@@ -102,6 +147,7 @@ pub(crate) fn told(
         request,
         user,
         reply,
+        row,
         status: status_in(&served),
     };
     Exchanged {

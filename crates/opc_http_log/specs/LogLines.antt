@@ -2,6 +2,9 @@
 use Rattle.std.specs.Prelude.{
   ◌≡◌,
   ℕ,
+  Bool,
+  true,
+  false,
   List,
   [],
   ◌∷◌,
@@ -15,10 +18,12 @@ use Rattle.std.specs.Prelude.{
   codes,
   decimal,
   flat_map,
+  if◌then◌else◌,
 }
-use Rattle.opc_terms.specs.Faults.{fault_code}
+use Rattle.opc_terms.specs.Faults.{fault_code, fault_text}
 use Rattle.opc_terms.specs.Rules.{rule_text_or_none}
-use Rattle.opc_terms.specs.declared.fault.Fault.TheVariants.{RowFault}
+use Rattle.opc_terms.specs.declared.fault.Fault.{Fault}
+use Rattle.opc_terms.specs.declared.fault.Fault.TheVariants.{AlreadyOn, Exists, InUse, Missing, RowFault}
 use Rattle.opc_terms.specs.declared.rule.Rule.{Rule}
 use Rattle.opc_terms.specs.declared.store_fault.StoreFault.{StoreFault}
 use Rattle.opc_board.specs.Texts.{text_or}
@@ -26,6 +31,7 @@ use Rattle.opc_machine.specs.Inputs.{console_of, input_of}
 use Rattle.opc_machine.specs.declared.request.Answer.{Answer}
 use Rattle.opc_machine.specs.declared.request.Answer.TheVariants.{Done, Refused}
 use Rattle.opc_machine.specs.declared.request.Request.{Request}
+use Rattle.opc_http_requests.specs.BodyKeys.{key_text}
 use Rattle.opc_http_requests.specs.declared.refusal.HttpRefusal.{HttpRefusal}
 use Rattle.opc_http_requests.specs.declared.refusal.HttpRefusal.TheVariants.{
   BadRequest,
@@ -35,6 +41,8 @@ use Rattle.opc_http_requests.specs.declared.refusal.HttpRefusal.TheVariants.{
   TooLarge,
   BadRow,
 }
+use Rattle.opc_http_requests.specs.declared.refusal.InvalidPart.{InvalidPart}
+use Rattle.opc_http_requests.specs.declared.refusal.InvalidPart.TheVariants as part
 use Rattle.opc_http_log.specs.Escapes.{printable}
 use Rattle.opc_times.specs.Times.{IsTime}
 use Rattle.opc_http_log.specs.Words.{request_words, shown}
@@ -60,7 +68,7 @@ status_text (Some status) = decimal status
 -- `H` and the status of its response, or the code of a bad row
 abbrev pub refusal_code : HttpRefusal → List ℕ
 refusal_code (BadRow row why) = fault_code (RowFault row why)
-refusal_code BadRequest = codes "H400"
+refusal_code (BadRequest part) = codes "H400"
 refusal_code Forbidden = codes "H403"
 refusal_code NotFound = codes "H404"
 refusal_code (MethodNotAllowed method) = codes "H405"
@@ -77,28 +85,77 @@ abbrev pub words_text : Option Request → List ℕ
 words_text None = nothing
 words_text (Some request) = shown (request_words request)
 
--- the rule that decided, if one did
-abbrev pub rule_in : Option (Result Answer HttpRefusal) → Option Rule
-rule_in None = None
-rule_in (Some (Ok (Done lines rule))) = rule
-rule_in (Some (Ok (Refused fault rule))) = rule
-rule_in (Some (Err refusal)) = None
+-- A fault that names what stands in the way: a user, a group, a profile or a row. Places in a command are not shown,
+-- since they depend on how long a password is.
+abbrev pub has_details : Fault → Bool
+has_details (AlreadyOn user) = true
+has_details (Exists subject) = true
+has_details (Missing subject) = true
+has_details (InUse subject) = true
+has_details (RowFault row why) = true
+has_details fault = false
+
+-- its text
+abbrev pub details_text : Fault → List ℕ
+details_text fault = if has_details fault then fault_text fault else nothing
+
+-- the rule that decided, or what the fault names, if none did
+abbrev pub refused_text : Fault → Option Rule → List ℕ
+refused_text fault None = details_text fault
+refused_text fault (Some rule) = rule_text_or_none (Some rule)
+
+-- which part of a request is invalid
+abbrev pub part_text : InvalidPart → List ℕ
+part_text part.Head = codes "head"
+part_text part.Coding = codes "framing: Transfer-Encoding"
+part_text part.Length = codes "framing: Content-Length"
+part_text part.CutShort = codes "body: cut short"
+part_text part.Console = codes "path: the console"
+part_text part.Batch = codes "path: the batch"
+part_text part.Class = codes "path: the class"
+part_text part.First = codes "path: the first number"
+part_text part.Count = codes "path: the count"
+part_text part.Json = codes "body: not JSON"
+part_text part.Object = codes "body: not an object"
+part_text (part.MissingKey key) = codes "body: the key " ++ key_text key ++ codes " is missing"
+part_text (part.Value key) = codes "body: the value of " ++ key_text key
+part_text part.OtherKeys = codes "body: a key is not known"
+part_text part.Utf8 = codes "body: not UTF-8"
+
+-- the invalid part, or the bad row of a policy file
+abbrev pub refusal_text : HttpRefusal → List ℕ
+refusal_text (BadRow row why) = details_text (RowFault row why)
+refusal_text (BadRequest part) = part_text part
+refusal_text refusal = nothing
+
+-- why it came to that
+abbrev pub reason_text : Option (Result Answer HttpRefusal) → List ℕ
+reason_text None = nothing
+reason_text (Some (Ok (Done lines rule))) = rule_text_or_none rule
+reason_text (Some (Ok (Refused fault rule))) = refused_text fault rule
+reason_text (Some (Err refusal)) = refusal_text refusal
 
 -- a field and a space
 abbrev pub field : List ℕ → List ℕ
 field text = text ++ codes " "
 
--- at which console, and for whom
+-- the console, and for whom it acted
 abbrev pub who_text : LogEntry → List ℕ
 who_text entry = field (console_text entry.request) ++ field (user_text entry.user)
 
--- what came of it
+-- the outcome
 abbrev pub outcome_text : LogEntry → List ℕ
 outcome_text entry = field (status_text entry.status) ++ field (code_text entry.reply)
 
--- what was requested, and the rule that decided
+-- the row of the account, if there is one; `#?` for one whose number could not be loaded
+abbrev pub row_text : Result (Option ℕ) StoreFault → List ℕ
+row_text (Ok None) = []
+row_text (Ok (Some number)) = codes " #" ++ decimal number
+row_text (Err fault) = codes " #?"
+
+-- what was requested, why it came to that, and the row of the account
 abbrev pub what_text : LogEntry → List ℕ
-what_text entry = field (words_text entry.request) ++ rule_text_or_none (rule_in entry.reply)
+what_text entry = field (words_text entry.request) ++ (reason_text entry.reply ++ row_text entry.row)
 
 abbrev pub fields_of : LogEntry → List ℕ
 fields_of entry = who_text entry ++ outcome_text entry ++ what_text entry

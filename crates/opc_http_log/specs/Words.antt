@@ -51,7 +51,7 @@ abbrev pub profile_words : (name : List ℕ) → Class → (pattern : List ℕ) 
 profile_words name class pattern =
     columns (name ∷ (codes "class=" ++ class_text class) ∷ (codes "pattern=" ++ pattern) ∷ [])
 
--- a profile with what it has
+-- a profile with its attributes
 abbrev pub attributes_words : (profile owner : List ℕ) → Level → (warning : Bool) → List ℕ
 attributes_words profile owner uacc warning =
     columns

@@ -1,4 +1,4 @@
-//! What a log tells of an exchange.
+//! The log entry of an exchange.
 use opc_http_requests::refusal::HttpRefusal;
 use opc_machine::request::{Answer, Request};
 use opc_names::name::UserId;
@@ -13,8 +13,10 @@ pub struct LogEntry {
     pub request: Option<Request>,
     /// For whom the console acted before the request, if that could be loaded.
     pub user: Result<Option<UserId>, StoreFault>,
-    /// What was replied: the answer to the request, or the refusal of what is not one. Nothing if nothing was read.
+    /// The reply: the answer to the request, or the refusal of what is not one. Nothing if nothing was read.
     pub reply: Option<Result<Answer, HttpRefusal>>,
+    /// The number of the row that the account got for the request, if it got one and the number could be loaded.
+    pub row: Result<Option<u64>, StoreFault>,
     /// The status of the response, if that was written whole.
     pub status: Option<u16>,
 }

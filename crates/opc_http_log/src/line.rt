@@ -1,15 +1,22 @@
 //! The line of an exchange in a log.
 ghost use Rattle.std.specs.Prelude.{◌≡◌, ◌++◌, IfOk, OnOk, codes, string_bytes};
+ghost use Rattle.opc_http_requests.specs.declared.refusal.InvalidPart.TheVariants as part;
 ghost use Rattle.opc_http_log.specs.LogLines.{
   IsLineText,
   IsLogLine,
   code_text,
   console_text,
+  details_text,
   field,
   fields_of,
+  has_details,
   outcome_text,
+  part_text,
+  reason_text,
   refusal_code,
-  rule_in,
+  refusal_text,
+  refused_text,
+  row_text,
   status_text,
   user_text,
   what_text,
@@ -20,9 +27,11 @@ ghost use Rattle.opc_http_log.specs.LogLines.{
 use crate::entry::LogEntry;
 use crate::escape::printable;
 use crate::words::shown_request;
-use opc_http_requests::refusal::HttpRefusal;
+use opc_http_requests::body_key::BodyKey;
+use opc_http_requests::refusal::{HttpRefusal, InvalidPart};
 use opc_machine::request::{Answer, Request};
 use opc_names::name::UserId;
+use opc_terms::fault::Fault;
 use opc_terms::rule::Rule;
 use opc_terms::store_fault::StoreFault;
 use opc_times::time::time_text;
@@ -60,7 +69,7 @@ fn refusal_code(refusal: &HttpRefusal) -> &'static str
     ensures { result.now ≡ refusal_code refusal.now }
 {
     match refusal {
-        HttpRefusal::BadRequest => "H400",
+        HttpRefusal::BadRequest(_) => "H400",
         HttpRefusal::Forbidden => "H403",
         HttpRefusal::NotFound => "H404",
         HttpRefusal::MethodNotAllowed(_) => "H405",
@@ -69,7 +78,7 @@ fn refusal_code(refusal: &HttpRefusal) -> &'static str
     }
 }
 
-/// The code of what was replied, if that is a refusal.
+/// The code of the reply, if it is a refusal.
 fn code_text(reply: &Option<Result<Answer, HttpRefusal>>) -> &str
     ensures { result.now ≡ code_text reply.now }
 {
@@ -80,13 +89,120 @@ fn code_text(reply: &Option<Result<Answer, HttpRefusal>>) -> &str
     }
 }
 
-/// The rule that decided, if one did.
-fn rule_in(reply: &Option<Result<Answer, HttpRefusal>>) -> Option<Rule>
-    ensures { result ≡ rule_in reply.now }
+/// Whether a fault names what stands in the way.
+fn has_details(fault: &Fault) -> bool
+    ensures { result ≡ has_details fault.now }
+{
+    match fault {
+        Fault::AlreadyOn(_)
+        | Fault::Exists(_)
+        | Fault::Missing(_)
+        | Fault::InUse(_)
+        | Fault::RowFault { .. } => true,
+        // The others name nothing, or a place in a command, which depends on how long a password is.
+        _ => false,
+    }
+}
+
+/// What a fault names.
+fn details_text(alloc: Global, fault: &Fault) -> Result<String, AllocError>
+    ensures { IfOk result (λ text. string_bytes text ≡ details_text fault.now) }
+{
+    if has_details(fault) {
+        fault.text(alloc)
+    } else {
+        String::from_str(alloc, NOTHING)
+    }
+}
+
+/// The rule that decided, or what the fault names, if none did.
+fn refused_text(alloc: Global, fault: &Fault, rule: &Option<Rule>) -> Result<String, AllocError>
+    ensures { IfOk result (λ text. string_bytes text ≡ refused_text fault.now rule.now) }
+{
+    match rule {
+        Some(_) => Rule::text_or_none(alloc, rule.as_ref()),
+        None => details_text(alloc, fault),
+    }
+}
+
+fn missing_key_text(alloc: Global, key: BodyKey) -> Result<String, AllocError>
+    ensures { IfOk result (λ text. string_bytes text ≡ part_text (part.MissingKey key)) }
+{
+    let name = key.text();
+    format!(in alloc; "body: the key {name} is missing")
+}
+
+fn value_text(alloc: Global, key: BodyKey) -> Result<String, AllocError>
+    ensures { IfOk result (λ text. string_bytes text ≡ part_text (part.Value key)) }
+{
+    let name = key.text();
+    format!(in alloc; "body: the value of {name}")
+}
+
+/// Which part of a request is invalid. No value is shown: it may be a password or a digest.
+fn part_text(alloc: Global, part: InvalidPart) -> Result<String, AllocError>
+    ensures { IfOk result (λ text. string_bytes text ≡ part_text part) }
+{
+    match part {
+        InvalidPart::Head => String::from_str(alloc, "head"),
+        InvalidPart::Coding => String::from_str(alloc, "framing: Transfer-Encoding"),
+        InvalidPart::Length => String::from_str(alloc, "framing: Content-Length"),
+        InvalidPart::CutShort => String::from_str(alloc, "body: cut short"),
+        InvalidPart::Console => String::from_str(alloc, "path: the console"),
+        InvalidPart::Batch => String::from_str(alloc, "path: the batch"),
+        InvalidPart::Class => String::from_str(alloc, "path: the class"),
+        InvalidPart::First => String::from_str(alloc, "path: the first number"),
+        InvalidPart::Count => String::from_str(alloc, "path: the count"),
+        InvalidPart::Json => String::from_str(alloc, "body: not JSON"),
+        InvalidPart::Object => String::from_str(alloc, "body: not an object"),
+        InvalidPart::MissingKey(key) => missing_key_text(alloc, key),
+        InvalidPart::Value(key) => value_text(alloc, key),
+        InvalidPart::OtherKeys => String::from_str(alloc, "body: a key is not known"),
+        InvalidPart::Utf8 => String::from_str(alloc, "body: not UTF-8"),
+    }
+}
+
+/// The invalid part, or the bad row of a policy file.
+fn refusal_text(alloc: Global, refusal: &HttpRefusal) -> Result<String, AllocError>
+    ensures { IfOk result (λ text. string_bytes text ≡ refusal_text refusal.now) }
+{
+    match refusal {
+        HttpRefusal::BadRow { row, why } => {
+            let fault = Fault::RowFault {
+                row: *row,
+                why: *why,
+            };
+            details_text(alloc, &fault)
+        }
+        HttpRefusal::BadRequest(part) => part_text(alloc, *part),
+        // The code of any other refusal says it all.
+        _ => String::from_str(alloc, NOTHING),
+    }
+}
+
+/// Why it came to what was replied.
+fn reason_text(
+    alloc: Global,
+    reply: &Option<Result<Answer, HttpRefusal>>,
+) -> Result<String, AllocError>
+    ensures { IfOk result (λ text. string_bytes text ≡ reason_text reply.now) }
 {
     match reply {
-        Some(Ok(Answer::Done { rule, .. } | Answer::Refused { rule, .. })) => *rule,
-        Some(Err(_)) | None => None,
+        Some(Ok(Answer::Done { rule, .. })) => Rule::text_or_none(alloc, rule.as_ref()),
+        Some(Ok(Answer::Refused { fault, rule })) => refused_text(alloc, fault, rule),
+        Some(Err(refusal)) => refusal_text(alloc, refusal),
+        None => String::from_str(alloc, NOTHING),
+    }
+}
+
+/// The row of the account, after a space, if there is one.
+fn row_text(alloc: Global, row: &Result<Option<u64>, StoreFault>) -> Result<String, AllocError>
+    ensures { IfOk result (λ text. string_bytes text ≡ row_text row.now) }
+{
+    match row {
+        Ok(Some(number)) => format!(in alloc; " #{number}"),
+        Ok(None) => String::from_str(alloc, ""),
+        Err(_) => String::from_str(alloc, " #?"),
     }
 }
 
@@ -116,7 +232,7 @@ fn words_text(alloc: Global, request: &Option<Request>) -> Result<Vec<u8>, Alloc
     }
 }
 
-/// Adds at which console, and for whom.
+/// Adds the console, and for whom it acted.
 fn push_who(line: &mut Vec<u8>, entry: &LogEntry) -> Result<(), AllocError>
     ensures { OnOk result (line.new.items ≡ line.old.items ++ who_text entry.now) }
 {
@@ -124,7 +240,7 @@ fn push_who(line: &mut Vec<u8>, entry: &LogEntry) -> Result<(), AllocError>
     push_field(line, user_text(&entry.user).as_bytes())
 }
 
-/// Adds what came of it.
+/// Adds the outcome.
 fn push_outcome(alloc: Global, line: &mut Vec<u8>, entry: &LogEntry) -> Result<(), AllocError>
     ensures { OnOk result (line.new.items ≡ line.old.items ++ outcome_text entry.now) }
 {
@@ -133,15 +249,16 @@ fn push_outcome(alloc: Global, line: &mut Vec<u8>, entry: &LogEntry) -> Result<(
     push_field(line, code_text(&entry.reply).as_bytes())
 }
 
-/// Adds what was requested, and the rule that decided.
+/// Adds what was requested, why it came to that, and the row of the account.
 fn push_what(alloc: Global, line: &mut Vec<u8>, entry: &LogEntry) -> Result<(), AllocError>
     ensures { OnOk result (line.new.items ≡ line.old.items ++ what_text entry.now) }
 {
     let words = words_text(alloc, &entry.request)?;
     push_field(line, words.as_slice())?;
-    let rule = rule_in(&entry.reply);
-    let rule = Rule::text_or_none(alloc, rule.as_ref())?;
-    line.extend_from_slice(rule.as_str().as_bytes())
+    let reason = reason_text(alloc, &entry.reply)?;
+    line.extend_from_slice(reason.as_str().as_bytes())?;
+    let row = row_text(alloc, &entry.row)?;
+    line.extend_from_slice(row.as_str().as_bytes())
 }
 
 fn push_fields(alloc: Global, line: &mut Vec<u8>, entry: &LogEntry) -> Result<(), AllocError>
@@ -152,7 +269,7 @@ fn push_fields(alloc: Global, line: &mut Vec<u8>, entry: &LogEntry) -> Result<()
     push_what(alloc, line, entry)
 }
 
-/// What a line has, before bytes that are not printable are escaped.
+/// The text of a line, before bytes that are not printable are escaped.
 fn line_text(alloc: Global, entry: &LogEntry) -> Result<Vec<u8>, AllocError>
     ensures { IfOk result (λ text. IsLineText entry.now text.items) }
 {

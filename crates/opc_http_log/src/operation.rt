@@ -75,7 +75,7 @@ fn profile(alloc: Global, name: &str, class: Class, pattern: Pattern) -> Result<
     format!(in alloc; "{name} class={class} pattern={pattern}")
 }
 
-/// A profile with what it has.
+/// A profile with its attributes.
 fn attributes(
     alloc: Global,
     profile: &str,

@@ -3,10 +3,13 @@ ghost use Rattle.std.specs.Prelude.{◌≡◌, ◌≤◌, ◌++◌, IfOk, length
 ghost use Rattle.std.specs.List.{prefix_len};
 ghost use Rattle.opc_http_log.specs.Typed.{
   after_spaces,
+  first_word,
+  has_verb,
   hidden_by,
   is_in_word,
   is_logon,
   is_space,
+  is_verb,
   past_word,
   read_as,
   typed,
@@ -15,6 +18,7 @@ ghost use Rattle.opc_http_log.specs.Typed.{
 
 use opc_reader::{Command, ReadFault, read_command};
 use std::alloc::{AllocError, Global};
+use std::str;
 
 /// What stands for all that is not shown.
 const STARS: &[u8] = b",********";
@@ -42,7 +46,15 @@ fn after_spaces(text: &[u8]) -> &[u8]
     text.split_at(spaces_before(text)).1
 }
 
-/// What follows the first word of a text.
+/// The first word of a text.
+fn first_word(text: &[u8]) -> &[u8]
+    ensures { result.now ≡ first_word text.now }
+{
+    let words = after_spaces(text);
+    words.split_at(word_len(words)).0
+}
+
+/// What follows it.
 fn past_word(text: &[u8]) -> &[u8]
     ensures value { result.now ≡ past_word text.now }
     ensures within { length result.now ≤ length text.now }
@@ -51,7 +63,7 @@ fn past_word(text: &[u8]) -> &[u8]
     words.split_at(word_len(words)).1
 }
 
-/// What a text reads as.
+/// What a text is read as.
 fn read(text: &str) -> Result<Command<'_>, ReadFault>
     ensures { result ≡ read_as text.now }
 {
@@ -65,6 +77,27 @@ fn is_logon(command: &Command<'_>) -> bool
         Command::Logon(_, _) => true,
         // No other command has a password.
         _ => false,
+    }
+}
+
+/// Whether a text is a command, or has nothing wrong but its operands.
+fn has_verb(text: &str) -> bool
+    ensures { result ≡ has_verb (read_as text.now) }
+{
+    match read(text) {
+        Ok(_) | Err(ReadFault::BadOperand(_)) => true,
+        // With any other fault it begins with no verb, or a quoted text is not closed, of which a word has none.
+        Err(_) => false,
+    }
+}
+
+/// Whether a word is a verb: it is a command by itself, or lacks its operands.
+fn is_verb(word: &[u8]) -> bool
+    ensures { result ≡ is_verb word.now }
+{
+    match str::from_utf8(word) {
+        Ok(text) => has_verb(text),
+        Err(_) => false,
     }
 }
 
@@ -82,7 +115,8 @@ fn hidden(text: &str) -> &[u8]
                 &[]
             }
         }
-        Err(_) => past_word(bytes),
+        Err(_) if is_verb(first_word(bytes)) => past_word(bytes),
+        Err(_) => after_spaces(bytes),
     }
 }
 

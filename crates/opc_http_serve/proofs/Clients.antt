@@ -43,7 +43,7 @@ use Rattle.opc_gate.specs.Handling.{IsHandled, IsRun}
 use Rattle.opc_gate.proofs.Running.{run_more}
 use Rattle.opc_http_connections.specs.Links.{Link}
 use Rattle.opc_http_requests.specs.declared.origins.Origins.{Origins}
-use Rattle.opc_http.specs.Exchange.{IsFaulty, IsServed as IsReplyServed, IsUnserved, Replies, Reply}
+use Rattle.opc_http.specs.Exchange.{IsFaulty, IsServed, IsUnserved, Replies, Reply}
 use Rattle.opc_http.specs.declared.exchanging.LinkFault.{LinkFault}
 use Rattle.opc_http.specs.declared.exchanging.LinkFault.TheVariants as fault
 use Rattle.opc_http.specs.declared.exchanging.Served.{Served}
@@ -62,7 +62,7 @@ next n = omega arith
 some_one : (rs : List (ℕ × Request)) (r : ℕ × Request) → rs ++ r ∷ [] ≡ [] → ⊥
 some_one rs r e = omega (arith, ap length e, length-append rs (r ∷ []))
 
--- a moment by the clock may be one
+-- a timestamp by the clock is valid
 zero_or_error : (early : Bool) (error : Error) → IfOk (if early then Ok 0 else Err error) (λ moment. moment ≤ LAST_MOMENT)
 zero_or_error true error = omega arith
 zero_or_error false error = tt
@@ -199,7 +199,7 @@ module _ {T : Type 0} (m : Meaning T) where
   }
 
 module _ (origins : Origins) {T : Type 0} (m : Meaning T) where
-  -- what an exchange adds to what was handled, by what is replied in it
+  -- what an exchange adds to what was handled, by its reply
   module _ (old mid new : T) (handled : Handled) (left : Option (List ℕ)) (moment : ℕ) (low : moment ≤ LAST_MOMENT) (sure : m.is_sure new → m.is_sure mid)
       (run : IsRunOf m old mid handled) where
     by_reply : (reply : Reply) → Replies origins m left mid new moment reply
@@ -212,7 +212,7 @@ module _ (origins : Origins) {T : Type 0} (m : Meaning T) where
     by_reply (Err refusal) none = (handled, (none.0, refl), none_more m old mid new handled none.1 run)
 
     module _ (before after : Option (List ℕ)) where
-      replied : (served : Served) → IsReplyServed origins m (λ held. held) left before after mid new moment served
+      replied : (served : Served) → IsServed origins m (λ held. held) left before after mid new moment served
           → (more : Handled) × RepliesOnce origins handled left moment before after (Ok served) more × IsRunOf m old new more
       replied served one = let r = by_reply one.reply one.replies in (r.0, record { reply = one.reply; replied = r.1; written = one.reported }, r.2)
 

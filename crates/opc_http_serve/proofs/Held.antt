@@ -1,4 +1,4 @@
--- What is said of a writer, said of what it holds.
+-- What holds of a writer, stated of what it holds.
 use Rattle.std.proofs.Common.{ℕ, List, Option, Result, Ok, Err, true, false, ap}
 use Rattle.std.specs.Prelude.{IfErr, IfOk}
 use Rattle.opc_state.specs.Meaning.{Meaning}

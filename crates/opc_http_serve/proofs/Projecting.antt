@@ -10,7 +10,7 @@ use Rattle.opc_http.specs.declared.exchanging.Served.{Served}
 use Rattle.opc_http_serve.specs.Serving.{AreServed, IsCutShort, IsTurn}
 use Rattle.opc_http_serve.specs.declared.arrival.ServeFault.{ServeFault}
 
--- what is said of an exchange, by what serves it
+-- what is stated of an exchange, by what serves it
 abbrev pub Made : Type 0 → Type 1
 Made G = G → Option (List ℕ) → ℕ → Option (List ℕ) → Option (List ℕ) → Result Served LinkFault → G → Type 0
 

@@ -19,7 +19,7 @@ use Rattle.opc_http_serve.specs.declared.arrival.ServeFault.{ServeFault}
 use Rattle.opc_http_serve.specs.declared.clock.TheConstants.{LAST_MOMENT}
 use Rattle.opc_http_serve.specs.Serving.{ServesClients}
 
--- requests that were handled, each at its moment, and their answers
+-- requests that were handled, each at its timestamp, and their answers
 pub record Handled : Type 0 where
   pub requests : List (ℕ × Request)
   pub answers : List Answer
@@ -34,8 +34,8 @@ handled_with handled moment request answer = record {
   answers = handled.answers ++ answer ∷ [];
 }
 
--- The reply is the answer to the request that is asked for, which is the one more that was handled. Or it refuses what
--- is asked, and no more was handled.
+-- The reply is the answer to the request, which is the one more that was handled. Or it refuses what is requested, and
+-- no more was handled.
 abbrev pub IsReplied : Origins → (left : Option (List ℕ)) → (old new : Handled) → ℕ → Reply → Type 0
 IsReplied origins left old new moment (Ok answer) =
     (request : Request) × IsAsked origins left (Ok request) × (new ≡ handled_with old moment request answer)
@@ -48,7 +48,7 @@ pub record RepliesOnce (origins : Origins) (old : Handled) (left : Option (List 
   pub replied : IsReplied origins left old new moment reply
   pub written : IsWritten reply before after ended
 
--- An exchange, by what was handled in it: a reply was reached; or the reader failed or there was no memory, nothing was
+-- An exchange, by what was handled in it: a reply was reached; or the reader or an allocation failed, nothing was
 -- handled, and nothing was written.
 abbrev pub IsConversation : Origins → (old : Handled) → (left : Option (List ℕ)) → ℕ → (before after : Option (List ℕ))
     → Result Served LinkFault → (new : Handled) → Type 0
@@ -62,7 +62,7 @@ IsConversation origins old left moment before after (Ok served) new =
     RepliesOnce origins old left moment before after (Ok served) new
 
 module _ {T : Type 0} (m : Meaning T) where
-  -- What was handled is a run of the machine, at moments that may be ones. If nothing was, nothing changed.
+  -- What was handled is a run of the machine, at valid timestamps. If nothing was, nothing changed.
   pub record IsRunOf (old new : T) (handled : Handled) : Type 0 where
     pub moments : All (λ (r : ℕ × Request). r.0 ≤ LAST_MOMENT) handled.requests
     pub run : m.is_sure new → (s : State) → m.represents old s
@@ -81,7 +81,7 @@ module _ (origins : Origins) {T : Type 0} (m : Meaning T) where
   module _ {C K : Type 0} (link : Link C K) (comes : Result (Option (C × C)) Error → Type 0)
       (timeout : Option Duration) where
     -- What this many connections make of the tables. Each client had one exchange, over its connection and at its
-    -- moment, for this long by some clock; or fewer had, and then none could be accepted. The requests that were
+    -- timestamp, for this long by some clock; or fewer had, and then none could be accepted. The requests that were
     -- handled are those that they asked for, their answers are those of the replies, and both are a run of the machine.
     pub record AreHandled {A : Type 0} (old new : T) (count : ℕ) (end : Result A ServeFault) : Type 0 where
       pub handled : Handled

@@ -13,7 +13,7 @@ use Rattle.opc_http_serve.specs.Handled.{IsExchange}
 use Rattle.opc_http_serve.specs.declared.service.Service.{Service}
 
 module _ {K : Type 0} (held : K → Option (List ℕ)) (has_failed : K → Bool) where
-  -- The line of an exchange was written to a log, whole unless a write failed; or there was no memory for it.
+  -- The line of an exchange was written to a log, whole unless a write failed; or its allocation failed.
   pub record IsLine (before after : K) (entry : LogEntry) : Type 0 where
     pub line : List ℕ
     pub is : IsLogLine entry line

@@ -1,4 +1,4 @@
--- Faults of a connection that was to be accepted, and not of the listener.
+-- Transient faults of an accept, which are not those of the listener.
 use Rattle.std.specs.Prelude.{ℤ, pos, Bool, false, List, [], ◌∷◌, Option, Some, None}
 use Rattle.std.specs.IoError.{raw_os_error}
 use Rattle.std.specs.List.{list_any}

@@ -17,9 +17,9 @@ use Rattle.opc_http_serve.specs.Arriving.{Arrives, IsArrival, IsLost}
 module _ {C K G : Type 0} (link : Link C K) (origins : Origins)
     (exchanged : G → Option (List ℕ) → ℕ → Option (List ℕ) → Option (List ℕ) → Result Served LinkFault → G → Type 0)
   where
-    -- One exchange was made over the client's connection, at its moment, and nothing else was written to it. It read
-    -- nothing but by its deadline, and only what it asked for; then a little more was drained.
-    pub record IsServed (came gone : Arrival C K) (old new : G) : Type 0 where
+    -- One exchange was made over the client's connection, at its timestamp, and nothing else was written to it. It read
+    -- only within its deadline, and only what the request needed; then a little more was drained.
+    pub record IsClientServed (came gone : Arrival C K) (old new : G) : Type 0 where
       pub ended : Result Served LinkFault
       pub made : exchanged old (link.remaining came.reader.handle) came.moment (link.contents came.writer.handle)
           (link.contents gone.writer.handle) ended new
@@ -36,9 +36,9 @@ module _ {C K G : Type 0} (link : Link C K) (origins : Origins)
         pub came : Arrival C K
         pub gone : Arrival C K
         pub arrival : IsArrival accepts clock_says link.shows timer timeout met came last
-        pub served : IsServed came gone was new
+        pub served : IsClientServed came gone was new
 
-      -- A client was served, or a connection came to nothing, and nothing was done.
+      -- A client was served, or an accept failed, and nothing was done.
       abbrev pub IsTurn : (met : D) → (was : G) → (last : D) → (new : G) → Type 0
       IsTurn met was last new = IsClient met was last new ⊎ (IsLost accepts met last × (new ≡ was))
 
@@ -68,7 +68,7 @@ module _ {C K G : Type 0} (link : Link C K) (origins : Origins)
       ServesFewer old count fault new =
           IsCutShort {D = ⊤} (λ _ handles _. comes handles) (λ _ _ _. ⊤) timer timeout tt old count fault tt new
 
-      -- What serving this many clients comes to.
+      -- The outcome of serving this many clients.
       abbrev pub ServesClients : {A : Type 0} → G → ℕ → Result A ServeFault → G → Type 0
       ServesClients old count (Ok all) new = ServesAll old count new
       ServesClients old count (Err fault) new = ServesFewer old count fault new

@@ -17,7 +17,8 @@ pub struct Acceptor<'a, H: Clock, L: ClientListener> {
 }
 
 impl<'a, H: Clock, L: ClientListener> Acceptor<'a, H, L> {
-    // The fields are private, and the ghosts below say nothing of them, so there is nothing that a clause could state.
+    // The fields are private, and the ghosts below state nothing about them, so there is nothing that a clause could
+    // state.
     pub fn new(clock: &'a H, listener: &'a L) -> Self {
         Acceptor { clock, listener }
     }

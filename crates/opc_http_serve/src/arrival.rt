@@ -14,7 +14,7 @@ pub enum ServeFault {
 }
 
 /// A client that came: its connection, by a handle to read and one to write, each with the deadline of the exchange,
-/// and the moment of its arrival.
+/// and the time of its arrival.
 #[derive(Drop)]
 pub struct Arrival<'a, C, K> {
     pub reader: Timed<'a, C, K>,

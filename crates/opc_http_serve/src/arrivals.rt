@@ -18,14 +18,14 @@ pub trait Arrivals {
 
     type Connection: Connection;
 
-    /// That a client came, with a handle to read its connection and one to write it, or why none did. What a function
-    /// over any arrivals promises by it can only be shown by the calls that the function makes.
+    /// A client came, with a handle to read its connection and one to write it, or why none did. Only the calls that a
+    /// function over any arrivals makes can show what it promises by this.
     ghost accepts: { Self → Result (Option (Self.Connection × Self.Connection)) Error → Self → Type 0 };
 
-    /// That the clock was read, and what it showed.
+    /// The clock was read, and showed this.
     ghost clock_says: { Self → Result Duration Error → Self → Type 0 };
 
-    /// The handles of the next connection; none if it can't have two.
+    /// The handles of the next connection; none if it cannot have two.
     fn accept(&mut self) -> io::Result<Option<(Self::Connection, Self::Connection)>>
         ensures { accepts self.old result self.new };
 
@@ -33,7 +33,7 @@ pub trait Arrivals {
         ensures { clock_says self.old result self.new };
 }
 
-/// The handles of the next connection; none if it came to nothing by a fault that passes.
+/// The handles of the next connection; none if the accept failed by a transient fault.
 fn accepted<A: Arrivals>(
     arrivals: &mut A,
 ) -> Result<Option<(A::Connection, A::Connection)>, ServeFault>
@@ -46,8 +46,8 @@ fn accepted<A: Arrivals>(
     }
 }
 
-/// Accepts the next client, at the moment when it came, with the time that its exchange has from then on. There is none
-/// if its connection came to nothing.
+/// Accepts the next client, with the time of its arrival and the time that its exchange has from then on. There is none
+/// if the accept failed.
 pub fn next<'a, A: Arrivals, K: Timer>(
     timer: &'a K,
     arrivals: &mut A,

@@ -1,4 +1,4 @@
-//! Moments, by the clock.
+//! Timestamps, by the clock.
 ghost use Rattle.std.specs.Prelude.{◌≡◌, ◌≤◌, IfOk};
 ghost use Rattle.opc_http_serve.specs.Moments.{moment_at, moment_of};
 
@@ -7,7 +7,7 @@ use std::io::ErrorKind;
 use std::rt::Clock;
 use std::time::Duration;
 
-/// The last moment: 13 digits.
+/// The last timestamp: 13 digits.
 pub const LAST_MOMENT: u64 = 9_999_999_999_999;
 
 fn moment_at(since: Duration) -> u64
@@ -16,7 +16,7 @@ fn moment_at(since: Duration) -> u64
     since.as_secs().min(LAST_MOMENT)
 }
 
-/// The moment by a reading of the clock. A time before 1970 is an error of its own there.
+/// The timestamp by a reading of the clock. A time before 1970 is an error of its own there.
 pub(crate) fn moment_of(reading: io::Result<Duration>) -> io::Result<u64>
     ensures { result ≡ moment_of reading }
 {
@@ -27,7 +27,7 @@ pub(crate) fn moment_of(reading: io::Result<Duration>) -> io::Result<u64>
     }
 }
 
-/// The clock's whole seconds since 1970; 0 before then, and the last moment at most.
+/// The clock's whole seconds since 1970; 0 before then, and at most the last timestamp.
 pub fn moment<C: Clock>(clock: &C) -> io::Result<u64>
     ensures { IfOk result (λ moment. moment ≤ LAST_MOMENT) }
 {

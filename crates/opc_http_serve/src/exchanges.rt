@@ -19,9 +19,9 @@ pub trait Exchanges {
     ghost use Rattle.opc_http.specs.declared.exchanging.LinkFault.{LinkFault};
     ghost use Rattle.opc_http.specs.declared.exchanging.Served.{Served};
 
-    /// That an exchange was made, with requests accepted from there: with what the reader had left, at this moment,
-    /// with what the writer held before it and after it, and how it ended. What a function over any of these promises
-    /// by it can only be shown by such an exchange.
+    /// An exchange was made, with requests accepted from there: with what the reader had left, at this time, with what
+    /// the writer held before it and after it, and how it ended. Only such an exchange can show what a function over
+    /// any of these promises by it.
     ghost exchanged: { Origins → Self → Option (List ℕ) → ℕ → Option (List ℕ) → Option (List ℕ)
         → Result Served LinkFault → Self → Type 0 };
 

@@ -1,10 +1,10 @@
-//! Faults of a connection that was to be accepted, and not of the listener.
+//! Transient faults of an accept, which are not those of the listener.
 ghost use Rattle.std.specs.Prelude.{◌≡◌};
 ghost use Rattle.opc_http_serve.specs.Passing.{is_passing};
 
 use std::io;
 
-/// The numbers of the system's errors that pass: memory (ENOMEM), descriptors of the system (ENFILE) or of the program
+/// The numbers of the system's transient errors: memory (ENOMEM), descriptors of the system (ENFILE) or of the program
 /// (EMFILE) run out, the protocol fails (EPROTO), the network is down (ENETDOWN), the peer is gone (ECONNABORTED), or
 /// there is no buffer (ENOBUFS).
 pub const PASSING: [i32; 7] = [12, 23, 24, 71, 100, 103, 105];

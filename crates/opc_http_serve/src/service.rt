@@ -15,14 +15,14 @@ use opc_io::source::Source;
 use opc_state::tables::Tables;
 use std::alloc::Global;
 
-/// A gate, and where its exchanges are logged, if they are.
+/// A gate, and where its exchanges are logged, if anywhere.
 #[derive(Drop)]
 pub struct Service<T: Tables, K> {
     pub gate: Gate<T>,
     pub log: Option<K>,
 }
 
-/// Writes to a log. Nothing but the log depends on that: if a write fails, the line is cut.
+/// Writes to a log. Nothing but the log depends on it: if a write fails, the line is cut.
 fn write_to<K: Sink>(log: &mut K, line: &[u8])
     ensures part { AppendsPrefix (K.held log.old) (K.held log.new) line.now }
     ensures whole { K.has_failed log.new ≡ false → Appends (K.held log.old) (K.held log.new) line.now }
@@ -30,7 +30,7 @@ fn write_to<K: Sink>(log: &mut K, line: &[u8])
     let _ = write_whole(log, line);
 }
 
-/// Writes the line of an exchange, which is over, to the log. If there is no memory for it, it is left out.
+/// Writes the line of an exchange, which is over, to the log. If its allocation fails, it is left out.
 fn write_line<K: Sink>(alloc: Global, log: &mut K, entry: &LogEntry)
     ensures { IsLineWritten K.held K.has_failed log.old log.new entry.now }
 {

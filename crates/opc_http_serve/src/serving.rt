@@ -4,7 +4,7 @@ ghost use Rattle.opc_http_connections.specs.Links.{Comes, link_of};
 ghost use Rattle.opc_http_serve.specs.Arriving.{Arrives};
 ghost use Rattle.opc_http_serve.specs.Handled.{AreHandled, IsExchange};
 ghost use Rattle.opc_http_serve.specs.Logging.{IsServiceExchange};
-ghost use Rattle.opc_http_serve.specs.Serving.{AreServed, IsCutShort, IsServed, IsTurn, ServesClients};
+ghost use Rattle.opc_http_serve.specs.Serving.{AreServed, IsCutShort, IsClientServed, IsTurn, ServesClients};
 
 use crate::acceptor::Acceptor;
 use crate::arrival::{Arrival, ServeFault};
@@ -32,8 +32,8 @@ fn serve_client<C: Connection, K: Timer, X: Exchanges>(
 )
     requires reader { client.old.reader.failed ≡ false }
     requires writer { client.old.writer.failed ≡ false }
-    ensures { IsServed (link_of C.limits K.shows C.reads C.remaining C.contents) routes.now (X.exchanged routes.now)
-        client.old client.new gate.old gate.new }
+    ensures { IsClientServed (link_of C.limits K.shows C.reads C.remaining C.contents) routes.now
+        (X.exchanged routes.now) client.old client.new gate.old gate.new }
 {
     let moment = client.moment;
     let served = gate.serve_one(
@@ -48,7 +48,7 @@ fn serve_client<C: Connection, K: Timer, X: Exchanges>(
     }
 }
 
-/// Serves the next client, whose exchange has this much time in all. A connection that came to nothing counts as one.
+/// Serves the next client, whose exchange has this much time in all. A failed accept counts as one.
 fn serve_next<A: Arrivals, K: Timer, X: Exchanges>(
     alloc: Global,
     timer: &K,
@@ -116,7 +116,7 @@ pub fn serve_on<H: AllocGlobal + Clock, L: ClientListener, T: Tables>(
     serve(rt.alloc(), rt, &mut acceptor, count, timeout, routes, gate)
 }
 
-/// Serves this many clients that come to a listener, and logs each exchange, if that is asked for.
+/// Serves this many clients that come to a listener, and logs each exchange, if that is requested.
 pub fn serve_logged_on<H: AllocGlobal + Clock, L: ClientListener, T: Tables, K: Sink>(
     rt: &H,
     listener: &L,

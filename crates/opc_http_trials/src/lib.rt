@@ -12,10 +12,10 @@
 //!   return.
 //! - MOMENT DRIP REQUEST: the same, with one byte a read and one byte a write.
 //! - MOMENT CUT REQUEST: an exchange for each number of bytes after which the request may end too early. The response
-//!   to no byte, and what comes of each of the others.
+//!   to no byte, and the outcome of each of the others.
 //! - MOMENT READS REQUEST: an exchange for each number of reads, of one byte, before a read fails.
-//! - MOMENT WRITES REQUEST: an exchange, one more for each number of writes, of one byte, before a write fails, and one
-//!   whose writer takes nothing. Then how many rows of the account come of each.
+//! - MOMENT WRITES REQUEST: an exchange, one more for each number of writes, of one byte, before a write fails, and
+//!   one whose writer takes nothing. Then how many rows of the account each adds.
 //!
 //! A REQUEST is `POST PATH BODY`, `GET PATH` or `BYTES TEXT`. In a body or a text `\r`, `\n` and `\t` stand for their
 //! characters, and `\x` and two digits for a byte.

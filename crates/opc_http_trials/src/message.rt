@@ -38,7 +38,7 @@ fn unescaped(alloc: Global, text: &str) -> Result<Vec<u8>> {
     Ok(bytes)
 }
 
-/// The byte of what stands after a backslash, and the rest.
+/// The byte for which the text after a backslash stands, and the rest.
 fn escape(piece: &str) -> Result<(u8, &str)> {
     for (letter, byte) in [('r', b'\r'), ('n', b'\n'), ('t', b'\t')] {
         if let Some(rest) = piece.strip_prefix(letter) {

@@ -26,28 +26,28 @@ const MOST_ROWS: u32 = 1000;
 
 /// The routes, a gate, and what the next gate begins with: a policy file, and a script.
 #[derive(Drop)]
-pub struct Room<T: Tables + Drop> {
+pub struct TrialRoom<T: Tables + Drop> {
     routes: Routes,
     gate: Option<Gate<Cached<T>>>,
     policy: String,
     beginning: String,
 }
 
-/// What came of an exchange, in words, and the bytes that were written.
+/// The outcome of an exchange, in words, and the bytes that were written.
 #[derive(Drop)]
-pub(crate) struct Exchanged {
+pub(crate) struct TrialExchange {
     pub(crate) words: String,
     pub(crate) written: Vec<u8>,
 }
 
-impl Exchanged {
-    /// What came of this exchange, which wrote these bytes.
+impl TrialExchange {
+    /// The outcome of this exchange, which wrote these bytes.
     pub(crate) fn of(
         alloc: Global,
         outcome: Result<Served, LinkFault>,
         written: Vec<u8>,
     ) -> Result<Self> {
-        Ok(Exchanged {
+        Ok(TrialExchange {
             words: words_of(alloc, outcome)?,
             written,
         })
@@ -61,10 +61,10 @@ fn gate_over<T: Tables + Drop>(alloc: Global, tables: T) -> Result<Gate<Cached<T
     }
 }
 
-impl<T: Tables + Drop> Room<T> {
+impl<T: Tables + Drop> TrialRoom<T> {
     /// No gate yet, and nothing to begin with.
     pub fn new(alloc: Global) -> Result<Self> {
-        Ok(Room {
+        Ok(TrialRoom {
             routes: routes(alloc)?,
             gate: None,
             policy: String::from_str(alloc, HEADER)?,
@@ -88,7 +88,7 @@ impl<T: Tables + Drop> Room<T> {
         Ok(printed)
     }
 
-    /// What comes of a line.
+    /// The outcome of a line.
     pub fn answer(&mut self, alloc: Global, line: &str) -> Result<String> {
         let (word, rest) = line.split_once(' ').unwrap_or((line, ""));
         match word {
@@ -147,16 +147,16 @@ impl<T: Tables + Drop> Room<T> {
         Ok((outcome, writer.bytes))
     }
 
-    /// One exchange with the gate, in words. If memory is refused, it is an error.
+    /// One exchange with the gate, in words. If an allocation fails, it is an error.
     pub(crate) fn exchange(
         &mut self,
         alloc: Global,
         moment: u64,
         reader: FailingReader<'_>,
         writer: FailingWriter,
-    ) -> Result<Exchanged> {
+    ) -> Result<TrialExchange> {
         let (outcome, written) = self.tried(alloc, moment, reader, writer)?;
-        Exchanged::of(alloc, outcome, written)
+        TrialExchange::of(alloc, outcome, written)
     }
 }
 
@@ -211,7 +211,7 @@ fn add_line(text: &mut String, line: &str) -> Result<()> {
     Ok(())
 }
 
-/// Out of memory, or a fault of the tables: the end of the program.
+/// A failed allocation, or a fault of the tables: the end of the program.
 fn aborted<T: Drop>(fault: Fault) -> Result<T> {
     match fault {
         Fault::NoMemory => bail!("out of memory"),

@@ -1,6 +1,6 @@
 //! Exchanges that succeed, that are cut off, and whose reader or writer fails.
 use crate::message::bytes_of;
-use crate::room::{ABORTED, Exchanged, Room};
+use crate::room::{ABORTED, TrialExchange, TrialRoom};
 use crate::spans::Spans;
 use anyhow::{Result, bail};
 use opc_http::LinkFault;
@@ -10,10 +10,10 @@ use opc_state::tables::Tables;
 use std::alloc::Global;
 use std::str;
 
-/// What comes of a request, in one of the ways of asking it.
+/// The outcome of a request, in one of the ways of sending it.
 pub(crate) fn exchanged<T: Tables + Drop>(
     alloc: Global,
-    room: &mut Room<T>,
+    room: &mut TrialRoom<T>,
     moment: u64,
     text: &str,
 ) -> Result<String> {
@@ -47,23 +47,23 @@ fn one_byte_a_write(alloc: Global, writes: usize) -> FailingWriter {
 /// An exchange in which nothing fails.
 fn asked<T: Tables + Drop>(
     alloc: Global,
-    room: &mut Room<T>,
+    room: &mut TrialRoom<T>,
     moment: u64,
     bytes: &[u8],
-) -> Result<Exchanged> {
+) -> Result<TrialExchange> {
     let writer = FailingWriter::new(alloc, usize::MAX, usize::MAX);
     room.exchange(alloc, moment, never_failing(bytes), writer)
 }
 
-/// What came of an exchange, and the whole response.
-fn served(alloc: Global, outcome: &Exchanged) -> Result<String> {
+/// The outcome of an exchange, and the whole response.
+fn served(alloc: Global, outcome: &TrialExchange) -> Result<String> {
     let response = str::from_utf8(outcome.written.as_slice())?.replace(alloc, "\r", "\\r")?;
     Ok(format!(in alloc; "{}\n{response}\n", outcome.words)?)
 }
 
 fn drip<T: Tables + Drop>(
     alloc: Global,
-    room: &mut Room<T>,
+    room: &mut TrialRoom<T>,
     moment: u64,
     bytes: &[u8],
 ) -> Result<String> {
@@ -74,7 +74,7 @@ fn drip<T: Tables + Drop>(
 
 fn cut<T: Tables + Drop>(
     alloc: Global,
-    room: &mut Room<T>,
+    room: &mut TrialRoom<T>,
     moment: u64,
     bytes: &[u8],
 ) -> Result<String> {
@@ -98,7 +98,7 @@ fn cut<T: Tables + Drop>(
 
 fn failing_reads<T: Tables + Drop>(
     alloc: Global,
-    room: &mut Room<T>,
+    room: &mut TrialRoom<T>,
     moment: u64,
     bytes: &[u8],
 ) -> Result<String> {
@@ -121,16 +121,16 @@ fn failing_reads<T: Tables + Drop>(
     spans.ended(alloc)
 }
 
-/// An exchange whose writer may fail, after which the account has this many rows, unless the request is aborted. If
-/// memory is refused for the response, nothing is written, and the request stays done.
+/// An exchange whose writer may fail, after which the account has this many rows, unless the request is aborted. If the
+/// allocation for the response fails, nothing is written, and the request stays done.
 fn written_to<T: Tables + Drop>(
     alloc: Global,
-    room: &mut Room<T>,
+    room: &mut TrialRoom<T>,
     moment: u64,
     bytes: &[u8],
     writer: FailingWriter,
     rows: usize,
-) -> Result<Exchanged> {
+) -> Result<TrialExchange> {
     let (outcome, written) = room.tried(alloc, moment, never_failing(bytes), writer)?;
     if matches!(outcome, Err(LinkFault::NoMemory { handled: true })) {
         if !written.is_empty() {
@@ -140,12 +140,12 @@ fn written_to<T: Tables + Drop>(
             bail!("a request that did not stay done");
         }
     }
-    Exchanged::of(alloc, outcome, written)
+    TrialExchange::of(alloc, outcome, written)
 }
 
 fn failing_writes<T: Tables + Drop>(
     alloc: Global,
-    room: &mut Room<T>,
+    room: &mut TrialRoom<T>,
     moment: u64,
     bytes: &[u8],
 ) -> Result<String> {

@@ -43,6 +43,7 @@ returns-in-Ok-clause-told g c =
         asked = c.in-Ok.ensures.asked;
         handled = c.answer-handled.ensures.handled;
         acts = c.answer-handled.ensures.user told;
+        numbered = c.answer-handled.ensures.row told;
         written = written g.K.Sink.held (Ok c.answer-handled.result.answer) _ _ c.send_answer-served.result
             c.send_answer-served.ensures.reported c.send_answer-served.ensures.cut_off;
       };
@@ -95,6 +96,7 @@ returns-in-Err-Refused-clause-told g c =
             c.in-Err-Refused.field-0-is c.in-Err-Refused.ensures.refused;
         same = refl;
         nobody = refl;
+        rowless = refl;
         written = written g.K.Sink.held (Err c.in-Err-Refused.refusal) _ _ c.send_refusal-served.result
             c.send_refusal-served.ensures.reported c.send_refusal-served.ensures.cut_off;
       };

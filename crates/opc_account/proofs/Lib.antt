@@ -1,4 +1,6 @@
-pub mod Counted
 pub mod Padded
 pub mod Paged
 mod Pages
+pub mod KnownCodes
+pub mod Filters
+pub mod Stars

@@ -59,7 +59,7 @@ take_no_more most xs ys full = take-append-le most xs ys (omega (arith, full, le
 module _ (is_json : Bool) (f : Filter) (rows : List (ℕ × AccountRow)) (most i : ℕ) (row : ℕ × AccountRow) (text : List ℕ)
     (within : i < length rows) (at : get_or rows i row ≡ row)
     (are : AreLines is_json (take most (met f (take i rows))) text) where
-  -- a row that meets the filter is shown, if not as many are,
+  -- a row that meets the filter is shown, if fewer are than requested,
   added : (meets f row.1 ≡ true) → met f (take (i + 1) rows) ≡ met f (take i rows) ++ row ∷ []
   added passes = filter_more _ rows i row within
       ∙ ap (λ (r : ℕ × AccountRow). met f (take i rows) ++ cond (meets f r.1) (r ∷ []) []) at

@@ -51,7 +51,7 @@ abbrev pub row_text : (is_json : Bool) → (time : List ℕ) → ℕ × AccountR
 row_text true time row = compact_text (row_value time row) ++ codes "\n"
 row_text false time row = columns_line time row
 
--- The line of a row, with the time of its moment in UTC; after the year 9999 that is its number.
+-- The line of a row, with its timestamp as a time in UTC; after the year 9999 as a number.
 pub record IsRowLine (is_json : Bool) (row : ℕ × AccountRow) (line : List ℕ) : Type 0 where
   pub time : List ℕ
   pub at : IsTime row.1.moment time

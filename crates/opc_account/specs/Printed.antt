@@ -41,7 +41,7 @@ pub record ArePrinted (is_json : Bool) (rows : List (ℕ × AccountRow)) (before
   pub printed : Appends before written text
 
 -- The lines of a page were printed: of the next rows those that meet the filter, at most as many as are left to be
--- shown. It is the last one if it has fewer rows than were asked for.
+-- shown. It is the last one if it has fewer rows than were requested.
 pub record IsPage (query : Query) (next left most : ℕ) (account : List AccountRow) (before written : Option (List ℕ))
     (count : ℕ) (is_last : Bool) : Type 0 where
   pub printed : ArePrinted query.json (take left (met query.filter (asked_for next most account))) before written
@@ -54,8 +54,8 @@ pub record IsAccount (query : Query) (account : List AccountRow) (before written
   pub are : AreLines query.json (shown query account) text
   pub printed : Appends before written (header_of query.json ++ text)
 
--- It was printed of the state that the tables represent, and they were not changed; or there was no memory, or the
--- tables or the output failed.
+-- It was printed of the state that the tables represent, and they were not changed; or an allocation, the tables or the
+-- output failed.
 pub record IsAccountPrinted {T W : Type 0} (m : Meaning T) (contents : W → Option (List ℕ)) (old new : T)
     (query : Query) (before written : W) (end : Result Status Failure) : Type 0 where
   pub shows : Loads m old new end

@@ -16,6 +16,6 @@ first_number (Last n) account = length account - n + 1
 abbrev pub rows_from : ℕ → List AccountRow → List (ℕ × AccountRow)
 rows_from number account = drop (number - 1) (numbered account)
 
--- From the first row on, those that meet the filter, in the order of their numbers, at most as many as asked for.
+-- From the first row on, those that meet the filter, in the order of their numbers, at most as many as requested.
 abbrev pub shown : Query → List AccountRow → List (ℕ × AccountRow)
 shown q account = take q.count (met q.filter (rows_from (first_number q.first account) account))

@@ -1,33 +1,27 @@
-//! Which rows of the account are asked for.
+//! Which rows of the account are requested.
 ghost use Rattle.std.specs.Prelude.{◌≡◌};
-ghost use Rattle.opc_account.specs.Filters.{is_among, is_wanted, is_within, meets, takes_all};
+ghost use Rattle.opc_account.specs.Filters.{is_code, is_wanted, is_within, meets, takes_all};
 
+use crate::codes::is_among;
 use opc_state::account::AccountRow;
 
-/// One code, or all that begin with a text.
-#[derive(Clone, Copy, Debug, PartialEq, Eq)]
-pub enum Codes<'a> {
-    One(&'a str),
-    Beginning(&'a str),
-}
-
-/// What a row has to be: not before the one moment nor after the other, of a user, of a console, and of these codes.
-/// `-` is nobody, and `*` is the console of an event.
+/// What a row must meet: not before one time nor after another, of a user, of a console, and with one of some codes,
+/// written with commas between them. `-` is nobody, and `*` is the console of an event.
 #[derive(Clone, Copy)]
 pub struct Filter<'a> {
     pub since: Option<u64>,
     pub until: Option<u64>,
     pub user: Option<&'a str>,
     pub console: Option<&'a str>,
-    pub codes: Option<Codes<'a>>,
+    pub codes: Option<&'a str>,
 }
 
-fn is_among(codes: &Codes<'_>, code: &str) -> bool
-    ensures { result ≡ is_among codes.now code.now }
+fn is_code(codes: Option<&str>, code: &str) -> bool
+    ensures { result ≡ is_code codes.entry code.now }
 {
     match codes {
-        Codes::One(wanted) => code == *wanted,
-        Codes::Beginning(start) => code.as_bytes().starts_with(start.as_bytes()),
+        Some(text) => is_among(text, code),
+        None => true,
     }
 }
 
@@ -55,7 +49,7 @@ fn is_within(since: Option<u64>, until: Option<u64>, moment: u64) -> bool
 }
 
 impl Filter<'_> {
-    /// Whether nothing is asked for, so that every row is what it has to be.
+    /// Whether the filter is empty, so that every row meets it.
     pub fn takes_all(&self) -> bool
         ensures { result ≡ takes_all self.now }
     {
@@ -66,17 +60,13 @@ impl Filter<'_> {
             && self.codes.is_none()
     }
 
-    /// Whether a row is what is asked for.
+    /// Whether a row meets the filter.
     pub fn meets(&self, row: &AccountRow) -> bool
         ensures { result ≡ meets self.now row.now }
     {
-        let is_code = match &self.codes {
-            Some(codes) => is_among(codes, row.code.as_str()),
-            None => true,
-        };
         is_within(self.since, self.until, row.moment)
             && is_wanted(self.user, row.user.as_str())
             && is_wanted(self.console, row.console.as_str())
-            && is_code
+            && is_code(self.codes, row.code.as_str())
     }
 }

@@ -14,7 +14,7 @@ use std::alloc::{AllocError, Global};
 /// The names of the columns.
 pub const HEADER: &str = "NUMBER TIME                 CONSOLE  USER     CODE RULE\n";
 
-/// As many as the widest column has.
+/// As many as the widest column has characters.
 const SPACES: [u8; 20] = [b' '; 20];
 
 /// Adds a column: a text, spaces up to its width, and one more.

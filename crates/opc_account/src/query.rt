@@ -1,4 +1,4 @@
-//! What is asked of the account.
+//! A query of the account.
 use crate::filter::Filter;
 
 /// The first row that is looked at.

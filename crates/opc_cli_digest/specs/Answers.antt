@@ -9,26 +9,26 @@ use Rattle.opc_cli_failures.specs.Statuses.{IsFailure}
 use Rattle.opc_reader_commands.specs.Stretches.{folded}
 use Rattle.opc_cli_digest.specs.Passwords.{IsPassword, IsTyped, digest_line, line_of}
 
--- what is said on a terminal before the password is typed
+-- the prompt on a terminal before the password is typed
 abbrev pub prompt_line : List ℕ
 prompt_line = codes "opcmds: type the password and Enter; it is shown as it is typed\n"
 
--- what is said of a line that is no password
+-- what is printed if a line is no password
 abbrev pub mistake_line : List ℕ
 mistake_line =
-    codes "error: the password does not read: it is 1 to 8 of A to Z, 0 to 9, #, $ and @; see opcmds digest --help\n"
+    codes "error: the password is invalid: it is 1 to 8 of A to Z, 0 to 9, #, $ and @; see opcmds digest --help\n"
 
 module _ {K : Type 0} (shown : K → Option (List ℕ)) (has_failed : K → Bool) where
   -- a text was printed, unless a write failed
   abbrev pub IsSaid : (quiet said : K) → List ℕ → Type 0
   IsSaid quiet said text = has_failed said ≡ false → Appends (shown quiet) (shown said) text
 
-  -- On a terminal it is said what is read.
+  -- On a terminal, the prompt was printed.
   abbrev pub IsPrompted : (is_terminal : Bool) → (quiet prompted : K) → Type 0
   IsPrompted true quiet prompted = IsSaid quiet prompted prompt_line
   IsPrompted false quiet prompted = prompted ≡ quiet
 
-  -- There was no memory, or the input or the output failed; and that was printed.
+  -- An allocation, the input or the output failed; and that was printed.
   pub record IsFailed (quiet reported : K) (status : Status) : Type 0 where
     pub fault : Fault
     pub failed : IsFailure fault
@@ -44,22 +44,23 @@ module _ {K : Type 0} (shown : K → Option (List ℕ)) (has_failed : K → Bool
         pub status_is : status ≡ Done
         pub silent : reported ≡ quiet
 
-      -- or, of a line that is no password, what a password is.
-      pub record IsRefused (line : List ℕ) : Type 0 where
+      -- or, if the line is no password, what a password is.
+      pub record IsLineRefused (line : List ℕ) : Type 0 where
         pub no_password : IsPassword line → ⊥
         pub said : IsSaid quiet reported mistake_line
         pub status_is : status ≡ BadInput
         pub silent : written ≡ before
 
       abbrev pub IsLineAnswered : (typed : List ℕ) → Type 0
-      IsLineAnswered typed = IsDigested (line_of typed) ⊎ (IsRefused (line_of typed) ⊎ IsFailed quiet reported status)
+      IsLineAnswered typed =
+          IsDigested (line_of typed) ⊎ (IsLineRefused (line_of typed) ⊎ IsFailed quiet reported status)
 
       -- The line was read and answered; or it was not read, and nothing was written.
       abbrev pub IsAnswered : (left : Option (List ℕ)) → Type 0
       IsAnswered left = ((typed : List ℕ) × IsTyped left typed × IsLineAnswered typed)
           ⊎ (IsFailed quiet reported status × (written ≡ before))
 
-  -- On a terminal, that was said first.
+  -- On a terminal, the prompt was printed first.
   pub record IsPromptedAnswer {W : Type 0} (contents : W → Option (List ℕ)) (before written : W) (quiet reported : K)
       (is_terminal : Bool) (left : Option (List ℕ)) (status : Status) : Type 0 where
     pub prompted : K

@@ -28,7 +28,7 @@ use Rattle.opc_reader_commands.specs.Stretches.{folded}
 abbrev pub most : ℕ
 most = 10
 
--- what stands up to the first line feed, and that
+-- what stands up to the first line feed, including it
 abbrev pub through_feed : List ℕ → List ℕ
 through_feed [] = []
 through_feed (c ∷ rest) = if c == 10 then c ∷ [] else c ∷ through_feed rest
@@ -42,7 +42,7 @@ abbrev pub line_of : (typed : List ℕ) → List ℕ
 line_of typed =
     if slice_index typed (length typed - 1) == 10 then strip_carriage_return (take (length typed - 1) typed) else typed
 
--- A line is a password of the rules once it is folded to capitals, as at LOGON.
+-- A line is a password by the rules once it is folded to capitals, as at LOGON.
 abbrev pub IsPassword : (line : List ℕ) → Type 0
 IsPassword line = IsAscii line × (name_fault user_rule (folded line) ≡ None)
 

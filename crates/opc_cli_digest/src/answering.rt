@@ -24,7 +24,7 @@ use std::alloc::Global;
 use std::io;
 use std::io::{Read, Write};
 
-/// Reads a password, prints its digest, and returns the status. On a terminal it is said what is read.
+/// Reads a password, prints its digest, and returns the status. On a terminal, it prompts for the password.
 pub fn answer_password<R: Read, W: Write, K: Sink>(
     alloc: Global,
     input: &mut R,
@@ -39,7 +39,7 @@ pub fn answer_password<R: Read, W: Write, K: Sink>(
     answer(alloc, input, output, errors)
 }
 
-/// Says on a terminal what is read.
+/// Prompts on a terminal for the password.
 fn prompt<K: Sink>(is_terminal: bool, errors: &mut K)
     ensures { IsPrompted K.held K.has_failed is_terminal errors.old errors.new }
 {
@@ -56,7 +56,7 @@ fn say<K: Sink>(text: &str, errors: &mut K)
     ensures said { IsSaid K.held K.has_failed errors.old errors.new text.now }
     ensures kept { K.has_failed errors.new ≡ false → K.has_failed errors.old ≡ false }
 {
-    // The status reports it too, if no word can be printed.
+    // The status reports the failure even if nothing can be printed.
     let _ = write_whole(errors, text.as_bytes());
 }
 
@@ -76,7 +76,7 @@ fn answer<R: Read, W: Write, K: Sink>(
     }
 }
 
-/// Answers what was typed.
+/// Answers the line that was typed.
 fn answer_line<W: Write, K: Sink>(typed: &[u8], output: &mut W, errors: &mut K) -> Status
     requires { length typed.now ≤ most }
     ensures answered { IsLineAnswered K.held K.has_failed W.contents output.old output.new errors.old errors.new result
@@ -90,7 +90,7 @@ fn answer_line<W: Write, K: Sink>(typed: &[u8], output: &mut W, errors: &mut K) 
         },
         None => {
             say(
-                "error: the password does not read: it is 1 to 8 of A to Z, 0 to 9, #, $ and @; see opcmds digest --help\n",
+                "error: the password is invalid: it is 1 to 8 of A to Z, 0 to 9, #, $ and @; see opcmds digest --help\n",
                 errors,
             );
             Status::BadInput

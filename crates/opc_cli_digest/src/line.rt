@@ -10,7 +10,7 @@ use std::io::{ErrorKind, Read};
 /// The most bytes that are read: of a password, a carriage return and a line feed.
 const MOST: usize = 10;
 
-/// How many reads are tried, those among them that a signal cut short.
+/// How many reads are tried, including those that a signal interrupts.
 const TRIES: u32 = 1_000_000;
 
 /// What is typed up to the first line feed, which is read too, and nothing after it.
@@ -58,7 +58,7 @@ pub(crate) fn line_of(typed: &[u8]) -> &[u8]
 {
     match typed.split_last() {
         Some((b'\n', line)) => without_return(line),
-        // The input ended, or more bytes than a password has were typed.
+        // The input ended, or more bytes were typed than a password can have.
         _ => typed,
     }
 }

@@ -10,7 +10,7 @@ use opc_reader_commands::folded::Folded;
 use sha2::{Digest, Sha256};
 use std::str;
 
-/// The password that a line is, folded to capitals as at LOGON.
+/// The password on a line, folded to capitals as at LOGON.
 #[tactic(auto, using(crate::proofs::Lines::no_password))]
 pub(crate) fn password_in(line: &[u8]) -> Option<Password>
     requires { length line.now ≤ 126 }
@@ -27,7 +27,7 @@ pub(crate) fn password_in(line: &[u8]) -> Option<Password>
             // It is no password.
             Err(_) => None,
         },
-        // What is ASCII is UTF-8.
+        // ASCII is UTF-8.
         Err(_) => unreachable!(),
     }
 }

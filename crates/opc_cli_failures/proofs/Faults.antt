@@ -1,4 +1,4 @@
--- What a failed stream ends the program with.
+-- How a failed stream ends the program.
 use Rattle.std.proofs.Common.{◌≡◌, None, inl, inr, refl}
 use Rattle.std.specs.declared.io.ErrorKind.{ErrorKind}
 use Rattle.std.specs.declared.io.ErrorKind.TheVariants.{OutOfMemory}

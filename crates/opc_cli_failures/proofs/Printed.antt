@@ -10,7 +10,7 @@ pub nothing_yet : (a : Option (List ℕ)) → Grows a a
 nothing_yet a = ([], appends-none a)
 
 module _ {A E : Type 0} (result : Result A E) (a b c : Option (List ℕ)) where
-  -- bytes, and then more if that went well
+  -- bytes, and then more if that succeeded
   pub then_appends : (first second : List ℕ) → Appends a b first → OnOk result (Appends b c second) → OnOk result (Grows a c)
   then_appends first second h k = go result k
     where

@@ -36,6 +36,6 @@ shown_character code = if is_hidden code then escape_unicode code else code ∷ 
 unfoldable pub shown : List ℕ → List ℕ
 shown text = encode_utf8_all (flat_map shown_character (chars text))
 
--- Of texts, one after another, each shows by itself.
+-- Of texts, one after another, each is shown by itself.
 abbrev pub JoinTexts : Type 0
 JoinTexts = (one other : List ℕ) → IsUtf8 one → shown (one ++ other) ≡ shown one ++ shown other

@@ -1,4 +1,4 @@
--- The statuses that the program ends with, and the faults of streams.
+-- The statuses with which the program ends, and the faults of streams.
 use Rattle.std.specs.Prelude.{◌≡◌, ◌⊎◌, ℕ, Option, Some, None, Result, Ok, Err}
 use Rattle.std.specs.IoError.{error_kind}
 use Rattle.std.specs.declared.io.Error.{Error}
@@ -20,8 +20,8 @@ number_of Refused = 1
 number_of BadInput = 2
 number_of Failed = 3
 
--- The status that a fault ends the program with: bad input; a failure if there was no memory or the store or a device
--- failed; otherwise a refusal.
+-- The status with which a fault ends the program: bad input; a failure if an allocation, the store or a device failed;
+-- otherwise a refusal.
 abbrev pub status_of : Fault → Status
 status_of (RowFault row why) = BadInput
 status_of NoMemory = Failed
@@ -29,26 +29,26 @@ status_of Store = Failed
 status_of (NotOurs version) = Failed
 status_of fault = Refused
 
--- the status that the program ends with
+-- the status with which the program ends
 abbrev pub status_of_end : Result Status Failure → Status
 status_of_end (Ok status) = status
 status_of_end (Err failure) = status_of failure.fault
 
--- The fault that a failed read, write or opening is reported as: out of memory, or any other of a device.
+-- The fault that reports a failed read, write or opening: a failed allocation, or a failed device.
 abbrev pub fault_of_kind : ErrorKind → Fault
 fault_of_kind OutOfMemory = NoMemory
 fault_of_kind kind = Store
 
--- There was no memory, or the store or a device failed.
+-- An allocation, the store or a device failed.
 abbrev pub IsFailure : Fault → Type 0
 IsFailure fault = (fault ≡ NoMemory) ⊎ (fault ≡ Store)
 
--- What a read or a write that failed there with this error is reported as.
+-- How a read or a write that failed there with this error is reported.
 abbrev pub IsErrorAt : Place → Error → Failure → Type 0
 IsErrorAt at error failure = (failure.fault ≡ fault_of_kind (error_kind error))
     × (failure.cause ≡ Some (at, System error))
 
--- There was no memory, or the input failed.
+-- An allocation or the input failed.
 abbrev pub IsInputFailure : Failure → Type 0
 IsInputFailure failure = (failure.fault ≡ NoMemory) ⊎ ((error : Error) × IsErrorAt Input error failure)
 

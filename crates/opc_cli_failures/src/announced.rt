@@ -7,7 +7,7 @@ ghost use Rattle.std.specs.Option.{is_none};
 use std::io;
 use std::io::{Read, Write};
 
-/// What somebody at a terminal is told before it is read.
+/// The note to a person at a terminal before it is read.
 const NOTE: &[u8] = b"opcmds: reading from the terminal; end with Ctrl-D\n";
 
 /// A reader, and where its first read is announced, if it is.
@@ -27,7 +27,7 @@ impl<R: Read, E: Write + Drop> Read for Announced<R, E> {
         ensures once { is_none self.new.errors ≡ true }
     {
         if let Some(mut errors) = self.errors.take() {
-            // (a note, without which the read takes place all the same)
+            // (if the note fails, the read takes place nevertheless)
             let _ = errors.write_all(NOTE);
         }
         self.inner.read(buf)

@@ -18,7 +18,7 @@ fn is_plain(text: &[u8]) -> bool
 pub fn has_unprintable(text: &str) -> bool
     ensures { result ≡ has_unprintable text.now }
 {
-    // Most texts are plain, and bytes are looked at in less time than characters.
+    // Most texts are plain, and testing bytes is faster than testing characters.
     !is_plain(text.as_bytes()) && some_unprintable(text)
 }
 

@@ -12,7 +12,7 @@ use opc_terms::fault::{Fault, Subject};
 use std::io;
 use std::io::ErrorKind;
 
-/// The files that the words name.
+/// The files that the arguments name.
 #[derive(Clone, Copy)]
 pub struct Paths<'a> {
     pub database: Option<&'a str>,
@@ -39,7 +39,7 @@ pub enum Place {
     Port(u16),
     /// A Unix socket.
     Socket,
-    /// A connection that was to be accepted.
+    /// Accepting a connection.
     Connection,
     /// A console, at which a request is made.
     Console(Subject),
@@ -101,14 +101,14 @@ impl Failure {
     }
 
     /// Prints the fault, as its code and its text, and then, in a line of its own, what failed and why. Returns the
-    /// status. Takes no memory, so that it can print if there is none; then it prints the first line alone.
+    /// status. Allocates nothing, so that it can print after a failed allocation; then it prints the first line alone.
     pub fn report<K: Sink>(&self, paths: &Paths<'_>, errors: &mut K) -> Status
         ensures status { result ≡ status_of self.now.fault }
         ensures reported { K.has_failed errors.new ≡ false
             → IsReported self.now.fault (K.held errors.old) (K.held errors.new) }
         ensures kept { K.has_failed errors.new ≡ false → K.has_failed errors.old ≡ false }
     {
-        // The status reports it too, if no word can be printed.
+        // The status reports the failure even if nothing can be printed.
         let _ = print_failure(self, paths, errors);
         status_of(&self.fault)
     }
@@ -119,11 +119,11 @@ pub fn note<K: Sink>(place: Place, reason: &Reason, errors: &mut K)
     ensures noted { K.has_failed errors.new ≡ false → Grows (K.held errors.old) (K.held errors.new) }
     ensures kept { K.has_failed errors.new ≡ false → K.has_failed errors.old ≡ false }
 {
-    // (without which the answer and the status still say that something is wrong)
+    // (if it fails, the answer and the status still report that something is wrong)
     let _ = print_note(&place, reason, &NO_PATHS, errors);
 }
 
-/// The status of what was to be done; a failure is reported.
+/// The status of a result; a failure is reported.
 pub fn reported<K: Sink>(end: Result<Status, Failure>, paths: &Paths<'_>, errors: &mut K) -> Status
     ensures status { result ≡ status_of_end end }
     ensures reported { IfErr end (λ failure. K.has_failed errors.new ≡ false
@@ -137,7 +137,7 @@ pub fn reported<K: Sink>(end: Result<Status, Failure>, paths: &Paths<'_>, errors
     }
 }
 
-/// The status that a fault ends the program with: bad input, out of memory or a failed device, or a refusal.
+/// The status with which a fault ends the program: bad input, a failed allocation or device, or a refusal.
 fn status_of(fault: &Fault) -> Status
     ensures { result ≡ status_of fault.now }
 {
@@ -149,13 +149,13 @@ fn status_of(fault: &Fault) -> Status
     }
 }
 
-/// A read that found no memory, or a device that failed.
+/// The fault of a failed allocation, or of a failed device.
 fn fault_of(error: &io::Error) -> Fault
     ensures { result ≡ fault_of_kind (error_kind error.now) }
 {
     match error.kind() {
         ErrorKind::OutOfMemory => Fault::NoMemory,
-        // No other kind of error means that memory was refused.
+        // No other kind of error is a failed allocation.
         _ => Fault::Store,
     }
 }

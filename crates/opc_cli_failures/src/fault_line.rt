@@ -1,4 +1,4 @@
-//! The line of a fault, put together without taking memory.
+//! The line of a fault, put together without an allocation.
 ghost use Rattle.std.specs.Prelude.{◌≡◌, ◌+◌, ◌++◌, ◌≤◌, length};
 ghost use Rattle.arrayvec.specs.ArrayString.{array_string_len};
 ghost use Rattle.opc_cli_failures.specs.Printing.{AreShort, details_text, fault_line, number_text, word_text};
@@ -21,7 +21,7 @@ enum Details<'a> {
     Row(u32, Why),
 }
 
-/// The words of the text of a fault. That text itself takes memory (`Fault::text`), and a `Display` may fail by its
+/// The words of the text of a fault. That text itself is allocated (`Fault::text`), and a `Display` may fail by its
 /// contract.
 fn words_of(fault: &Fault) -> (&str, Details<'_>)
     ensures text { result.0.now ++ details_text result.1 ≡ fault_text fault.now }

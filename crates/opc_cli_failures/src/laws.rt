@@ -1,4 +1,4 @@
-//! What is shown of texts, each law as what a call without a body ensures.
+//! What is shown of texts; each law is what a call without a body ensures.
 ghost use Rattle.opc_cli_failures.specs.Escaped.{PrintableTextsStay};
 ghost use Rattle.opc_cli_failures.specs.Shown.{JoinTexts};
 

@@ -1,4 +1,4 @@
-//! What makes the program fail, how that is reported on standard error, the status, and what a terminal is shown.
+//! Failures of the program, how they are reported on standard error, the status, and what a terminal shows.
 #![tactic(auto)]
 
 pub mod announced;
@@ -6,7 +6,6 @@ pub mod bad_line;
 pub mod escaped;
 pub mod failure;
 mod fault_line;
-pub mod first_row;
 pub mod laws;
 mod printing;
 pub mod reason;

@@ -1,4 +1,4 @@
-//! How a failure is printed, even if there is no memory.
+//! How a failure is printed, even if no memory can be allocated.
 ghost use Rattle.std.specs.Prelude.{◌≡◌, OnOk, if◌then◌else◌, is_err, true};
 ghost use Rattle.std.specs.Io.KnownBytes.{Appends};
 ghost use Rattle.opc_cli_failures.specs.Printing.{Grows, IsReported, fault_line};
@@ -17,7 +17,7 @@ const REASON_WORDS: usize = 640;
 /// More digits than a port has.
 const PORT_DIGITS: usize = 8;
 
-/// Prints a failure: its fault, and then, if there is memory, what failed and why.
+/// Prints a failure: its fault, and then, unless an allocation fails, what failed and why.
 pub(crate) fn print_failure<K: Sink>(
     failure: &Failure,
     paths: &Paths<'_>,
@@ -38,7 +38,7 @@ fn print_fault<K: Sink>(fault: &Fault, errors: &mut K) -> Result<(), WriteFault>
     write_whole(errors, fault_line(fault).as_str().as_bytes())
 }
 
-/// Prints, in a line of its own, what failed and why, if that is known and there is memory.
+/// Prints, in a line of its own, what failed and why, if that is known and no allocation fails.
 fn print_cause<K: Sink>(
     failure: &Failure,
     paths: &Paths<'_>,
@@ -51,7 +51,7 @@ fn print_cause<K: Sink>(
         Some((place, reason)) if failure.fault != Fault::NoMemory => {
             print_note(place, reason, paths, errors)
         }
-        // Nothing more is known, or there is no memory to print it.
+        // Nothing more is known, or the allocation to print it failed.
         _ => Ok(()),
     }
 }
@@ -66,15 +66,20 @@ pub(crate) fn print_note<K: Sink>(
     ensures text { OnOk result (Grows (K.held errors.old) (K.held errors.new)) }
     ensures failed { K.has_failed errors.new ≡ (if is_err result then true else K.has_failed errors.old) }
 {
-    print_place(place, paths, errors)?;
+    print_place(place, reason, paths, errors)?;
     print_reason(reason, errors)
 }
 
-fn print_place<K: Sink>(place: &Place, paths: &Paths<'_>, errors: &mut K) -> Result<(), WriteFault>
+fn print_place<K: Sink>(
+    place: &Place,
+    reason: &Reason,
+    paths: &Paths<'_>,
+    errors: &mut K,
+) -> Result<(), WriteFault>
     ensures text { OnOk result (Grows (K.held errors.old) (K.held errors.new)) }
     ensures failed { K.has_failed errors.new ≡ (if is_err result then true else K.has_failed errors.old) }
 {
-    print_pair("opcmds: ", kind_of(*place), errors)?;
+    print_pair("opcmds: ", kind_of(*place, reason), errors)?;
     print_pair(path_of(place, paths), digits_of(*place).as_str(), errors)
 }
 
@@ -95,7 +100,11 @@ fn print_pair<K: Sink>(first: &str, second: &str, errors: &mut K) -> Result<(), 
     write_whole(errors, second.as_bytes())
 }
 
-fn kind_of(place: Place) -> &'static str {
+/// The kind of a place; a hint is about none.
+fn kind_of(place: Place, reason: &Reason) -> &'static str {
+    if let Reason::Hint(_) = reason {
+        return "";
+    }
     match place {
         Place::Input => "standard input",
         Place::Output => "standard output",
@@ -126,7 +135,7 @@ fn path_of<'a>(place: &'a Place, paths: &Paths<'a>) -> &'a str {
 fn digits_of(place: Place) -> ArrayString<PORT_DIGITS> {
     let mut digits = ArrayString::new();
     if let Place::Port(port) = place {
-        // (a port has no more)
+        // (a port has no more digits)
         let _ = write!(digits, "{port}");
     }
     digits
@@ -134,13 +143,14 @@ fn digits_of(place: Place) -> ArrayString<PORT_DIGITS> {
 
 fn separator_of(reason: &Reason) -> &'static str {
     match reason {
-        Reason::Row(_) | Reason::Line(_) => ", ",
+        Reason::Row(..) | Reason::Line(_) => ", ",
+        Reason::Hint(_) => "",
         // The number of a row or a line belongs to the place; every other reason begins a sentence.
         _ => ": ",
     }
 }
 
-/// The words of a reason, as far as there is room for them.
+/// The words of a reason, if there is room for them.
 fn words_of(reason: &Reason) -> ArrayString<REASON_WORDS> {
     let mut words = ArrayString::new();
     let _ = write!(words, "{reason}");

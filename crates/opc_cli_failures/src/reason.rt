@@ -1,6 +1,5 @@
 //! Why the program failed, in words.
 use crate::bad_line::BadLine;
-use crate::first_row::FirstRow;
 use arrayvec::ArrayString;
 use opc_check::problem::RowProblem;
 use opc_terms::fault::Subject;
@@ -14,24 +13,28 @@ const SYSTEM_WORDS: usize = 320;
 #[derive(Drop)]
 pub enum Reason {
     System(io::Error),
-    /// A policy file of more bytes than one may have.
-    TooLong,
     /// A script of more bytes than one may have.
     LongScript,
+    /// A script that is not UTF-8.
     NotUtf8,
-    Utf16,
-    /// A policy file whose first row is not the header, or that has no row.
-    NoHeader(Option<FirstRow>),
-    /// Another row of a policy file, which does not read or is refused.
-    Row(RowProblem),
+    /// Bytes that are no text of a policy file, for this reason.
+    NoText(&'static str),
+    /// A policy file whose first row is not the header, or that has no row, in words.
+    NoHeader(String),
+    /// Another row of a policy file, which is invalid or refused, and the line on which it begins.
+    Row(RowProblem, Option<u64>),
     /// A line that is no request.
     Line(BadLine),
+    /// What helps somebody whose words or line name no place: the whole of what is printed.
+    Hint(String),
     /// An import without a console, over tables in which users are stored.
     UsersImported,
     /// A run with a first policy, over such tables.
     UsersRun,
     /// A console for which nobody acts.
     NobodyOn,
+    /// The policy does not have this console.
+    NoSuchConsole,
     /// One for which this user acts, without SPECIAL.
     NotSpecial(Subject),
     /// A name that means no file to SQLite.
@@ -46,7 +49,7 @@ pub enum Reason {
     /// A database that holds tables of this version; 0 stands for another program's.
     Tables(u64),
     DiskFull,
-    /// A database that is damaged, or a device that fails.
+    /// A database that is corrupt, or a device that fails.
     Unreadable,
 }
 
@@ -62,19 +65,23 @@ impl Display for Reason {
                     None => f.write_str(words.as_str()),
                 }
             }
-            Reason::TooLong => f.write_str("more than 16,777,216 bytes"),
             Reason::LongScript => f.write_str("more than 1,048,576 bytes"),
             Reason::NotUtf8 => f.write_str("not UTF-8"),
-            Reason::Utf16 => f.write_str("UTF-16 and not UTF-8; save it as \"CSV UTF-8\""),
-            Reason::NoHeader(Some(row)) => write!(f, "the first row is not the header: {row}"),
-            Reason::NoHeader(None) => f.write_str("no rows; the first has to be the header"),
-            Reason::Row(problem) => {
+            Reason::NoText(words) => f.write_str(words),
+            Reason::NoHeader(words) => f.write_str(words.as_str()),
+            Reason::Row(problem, Some(line)) => {
+                let (row, text) = (problem.number, problem.text.as_str());
+                write!(f, "row {row}, line {line}: {text}")
+            }
+            Reason::Row(problem, None) => {
                 write!(f, "row {}: {}", problem.number, problem.text.as_str())
             }
             Reason::Line(bad) => write!(f, "{bad}"),
+            Reason::Hint(words) => f.write_str(words.as_str()),
             Reason::UsersImported => f.write_str("users are stored; use --console"),
             Reason::UsersRun => f.write_str("users are stored; leave out --policy"),
-            Reason::NobodyOn => f.write_str("nobody is on"),
+            Reason::NobodyOn => f.write_str("nobody is logged on"),
+            Reason::NoSuchConsole => f.write_str("there is no such console"),
             Reason::NotSpecial(user) => write!(f, "{user} is not SPECIAL"),
             Reason::NoPath => f.write_str("not the path of a file"),
             Reason::NoPlainFile => f.write_str("not a plain file of one name"),
@@ -84,7 +91,7 @@ impl Display for Reason {
             Reason::Tables(0) => f.write_str("tables of another program"),
             Reason::Tables(version) => write!(f, "tables of version {version}"),
             Reason::DiskFull => f.write_str("the disk is full"),
-            Reason::Unreadable => f.write_str("damaged, or its disk is full or fails"),
+            Reason::Unreadable => f.write_str("corrupt, or the disk is full or failing"),
         }
     }
 }

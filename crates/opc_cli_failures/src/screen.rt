@@ -44,7 +44,7 @@ impl<W: Write> Write for Screen<W> {
         let Ok(text) = str::from_utf8(bytes) else {
             return Err(io::Error::from(ErrorKind::InvalidData));
         };
-        // Most texts are shown as they are, and take no memory: a program that has none left can still print its fault.
+        // Most texts are shown as they are, without an allocation: a program without memory can still print its fault.
         if !has_hidden(text) {
             self.inner.write_all(bytes)?;
             return Ok(bytes.len());

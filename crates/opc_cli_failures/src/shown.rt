@@ -36,7 +36,7 @@ impl TextStart {
 }
 
 impl TextStart {
-    /// What is shown of a text that begins so, and may go on.
+    /// What is shown of a text that begins like this, and may go on.
     pub fn of_start(start: &str, is_whole: bool) -> Self {
         let TextStart {
             text,
@@ -46,6 +46,29 @@ impl TextStart {
             text,
             is_whole: is_all && is_whole,
         }
+    }
+}
+
+/// How many characters a day has at least, as 20261127.
+const DAY_CHARACTERS: usize = 8;
+
+impl TextStart {
+    /// Whether it begins as a day does: with digits, and what stands between them.
+    pub(crate) fn begins_as_day(&self) -> bool {
+        let bytes = self.text.as_str().as_bytes();
+        bytes.len() >= DAY_CHARACTERS
+            && bytes[..DAY_CHARACTERS]
+                .iter()
+                .all(|c| c.is_ascii_digit() || matches!(*c, b'-' | b'/' | b'.'))
+    }
+
+    /// Whether it has digits and spaces alone.
+    pub(crate) fn is_of_numbers(&self) -> bool {
+        self.text
+            .as_str()
+            .as_bytes()
+            .iter()
+            .all(|c| c.is_ascii_digit() || *c == b' ')
     }
 }
 

@@ -1,21 +1,21 @@
-//! What the program came to.
+//! The outcome of the program.
 ghost use Rattle.std.specs.Prelude.{◌≡◌};
 ghost use Rattle.opc_cli_failures.specs.Statuses.{number_of};
 
-/// What a run or a question came to.
+/// The outcome of a run or a question.
 #[derive(Clone, Copy, Debug, PartialEq, Eq)]
 pub enum Status {
     Done,
     /// Something was refused.
     Refused,
-    /// The words, the policy file or a line of the script do not read, and nothing was done.
+    /// The arguments, the policy file or a line of the script are invalid, and nothing was done.
     BadInput,
-    /// There was no memory, or a device or the store failed.
+    /// An allocation, a device or the store failed.
     Failed,
 }
 
 impl Status {
-    /// The number that the program ends with.
+    /// The number with which the program ends.
     pub fn number(self) -> u8
         ensures { result ≡ number_of self }
     {

@@ -1,7 +1,8 @@
 -- What is requested by the values of options, and by the rows in which they were found.
 use Rattle.std.proofs.Common.{◌≡◌, ◌∙◌, ℕ, List, [], Option, Some, codes, ap, ap₂, false, refl, subst, sym}
+use Rattle.std.specs.Borrow.{Bor}
 use Rattle.std.specs.Option.{option_map_or}
-use Rattle.std.specs.Prelude.{◌∷◌, None, if◌then◌else◌, option_map, unwrap_or}
+use Rattle.std.specs.Prelude.{◌∷◌, ◌||◌, None, if◌then◌else◌, option_map, unwrap_or}
 use Rattle.std.specs.Str.{bytes_eq}
 use Rattle.clap.specs.Matches.{first_value, subcommand_name_of}
 use Rattle.clap.specs.Simple.{subcommand_rows_of}
@@ -10,45 +11,47 @@ use Rattle.clap.specs.declared.parser.matches.ArgMatches.{ArgMatches}
 use Rattle.clap.specs.declared.parser.matches.ArgMatches.TheViews.{out-ArgMatches}
 use Rattle.clap.specs.declared.parser.matches.Found.{Found}
 use Rattle.clap.proofs.WalkLemmas.{first_value-rows}
-use Rattle.opc_names.specs.Spellings.{classes, levels, lookup}
 use Rattle.opc_account.specs.declared.filter.Filter.{Filter}
 use Rattle.opc_account.specs.declared.query.First.{First}
-use Rattle.opc_cli_words.specs.declared.account.Account.{Account}
-use Rattle.opc_cli_words.specs.declared.check.PolicyCheck.{PolicyCheck}
-use Rattle.opc_cli_words.specs.declared.command_question.CommandQuestion.{CommandQuestion}
-use Rattle.opc_cli_words.specs.declared.import.Import.{Import}
-use Rattle.opc_cli_words.specs.declared.question.Question.{Question}
-use Rattle.opc_cli_words.specs.declared.serve.Address.{Address}
-use Rattle.opc_cli_words.specs.declared.serve.Serve.{Serve}
-use Rattle.opc_cli_words.specs.declared.source.Source.{Source}
-use Rattle.opc_cli_words.specs.declared.who.Enquiry.{Enquiry}
-use Rattle.opc_cli_words.specs.declared.words.Task.{Task}
-use Rattle.opc_cli_words.specs.declared.words.Task.TheVariants as task
+use Rattle.opc_account.specs.declared.asked.AskedQuery.{AskedQuery}
+use Rattle.opc_answers.specs.declared.question.Asks.{Asks}
+use Rattle.opc_answers.specs.declared.question.Asks.TheVariants.{Why, Who}
+use Rattle.opc_cli_tasks.specs.declared.question.Ask.{Ask}
+use Rattle.opc_cli_tasks.specs.declared.question.PolicyCheck.{PolicyCheck}
+use Rattle.opc_cli_tasks.specs.declared.question.PolicyQuestion.TheVariants as question
+use Rattle.opc_cli_tasks.specs.declared.source.PolicySource.{PolicySource}
+use Rattle.opc_cli_tasks.specs.declared.work.Address.{Address}
+use Rattle.opc_cli_tasks.specs.declared.work.Import.{Import}
+use Rattle.opc_cli_tasks.specs.declared.work.Lines.{Lines}
+use Rattle.opc_cli_tasks.specs.declared.work.Lines.TheVariants.{Script, Now}
+use Rattle.opc_cli_tasks.specs.declared.work.Serve.{Serve}
+use Rattle.opc_cli_tasks.specs.declared.work.Work.TheVariants as work
+use Rattle.opc_cli_tasks.specs.declared.task.Task.{Task}
+use Rattle.opc_cli_tasks.specs.declared.task.Task.TheVariants as task
 use Rattle.opc_cli_words.specs.Accounts.{
-  AreCodes,
   IsAccount,
   IsFilter,
   IsFirst,
   account_checks,
   all_rows,
-  moment_of,
   rows_of as number_of_rows,
 }
+use Rattle.opc_cli_words.specs.Moments.{row_time_of}
+use Rattle.opc_cli_words.specs.declared.moment.DaySecond.TheVariants as day
 use Rattle.opc_cli_words.specs.Numbers.{number_between}
 use Rattle.opc_cli_words.specs.Checks.{Check, first_mistake}
 use Rattle.opc_cli_words.specs.declared.mistake.Mistake.{Mistake}
 use Rattle.opc_cli_words.specs.declared.mistake.Mistake.TheVariants as wrong
 use Rattle.opc_cli_words.specs.Services.{IsAddress}
 use Rattle.opc_cli_words.specs.Sources.{IsSource}
-use Rattle.opc_cli_words.specs.Enquiries.{kind_given}
 use Rattle.opc_cli_words.specs.Options.{
-  IsCommandQuestion,
-  IsEnquiry,
+  IsAsk,
+  IsAskedBy,
   IsImport,
   IsPolicyCheck,
-  IsQuestion,
   IsService,
-  actor_of,
+  actor_in,
+  form_of,
   import_checks,
   is_set,
   longest,
@@ -58,9 +61,6 @@ use Rattle.opc_cli_words.specs.Options.{
   who_checks,
 }
 use Rattle.opc_cli_words.specs.Runs.{IsLines, IsRun, run_checks}
-use Rattle.opc_cli_words.specs.declared.run.Lines.{Lines}
-use Rattle.opc_cli_words.specs.declared.run.Lines.TheVariants.{Script, Now}
-use Rattle.opc_cli_words.specs.declared.run.Run.{Run}
 use Rattle.opc_cli_words.specs.Tasks.{FailsAt, IsTask, IsTaskOf, options_of}
 
 -- an address, by values that are the same
@@ -80,6 +80,7 @@ options_by explain run import serve who check account command =
     else if bytes_eq command (codes "check") then check
     else if bytes_eq command (codes "account") then account
     else if bytes_eq command (codes "digest") then []
+    else if bytes_eq command (codes "commands") then []
     else (wrong.NoCommand, false) ∷ []
 
 -- two ways in which the values of options are known
@@ -93,53 +94,50 @@ module _ (one other : List ℕ → Option (List ℕ)) (same : (name : List ℕ) 
   set : (name : List ℕ) → is_set one name ≡ is_set other name
   set name = ap (λ (o : Option (List ℕ)). option_map_or (λ text. bytes_eq text (codes "true")) o false) (same name)
 
-  source : (s : Source) → IsSource (one (codes "policy")) (one (codes "db")) s → IsSource (other (codes "policy")) (other (codes "db")) s
-  source s is = rw (sym (same (codes "policy")), sym (same (codes "db"))) is
+  source : (s : PolicySource) → IsSource (one (codes "file")) (one (codes "policy")) (one (codes "db")) s
+      → IsSource (other (codes "file")) (other (codes "policy")) (other (codes "db")) s
+  source s is = rw (sym (same (codes "file")), sym (same (codes "policy")), sym (same (codes "db"))) is
 
-  command_question : (q : CommandQuestion) → IsCommandQuestion one q → IsCommandQuestion other q
-  command_question q is = record {
-    user = is.user ∙ ap actor_of (given (codes "user"));
-    text = sym (same (codes "command")) ∙ is.text;
-    kind = ap kind_given (sym (same (codes "as"))) ∙ is.kind;
-    console = is.console ∙ same (codes "console");
-    why = is.why ∙ set (codes "why");
-    json = is.json ∙ set (codes "json");
-    source = source q.source is.source;
-  }
+  asks : (command : List ℕ) (a : Asks) → IsAskedBy one command a → IsAskedBy other command a
+  asks command (Why actor levels) is = (
+    is.0,
+    is.1 ∙ ap₂ actor_in (same (codes "command")) (given (codes "user")),
+    is.2 ∙ ap₂ ◌||◌ (set (codes "why")) (set (codes "json")),
+  )
+  asks command (Who allowed) is = (is.0, is.1 ∙ set (codes "allowed"))
 
-  question : (q : Question) → IsQuestion one q → IsQuestion other q
-  question q is = record {
-    user = is.user ∙ given (codes "user");
-    class = of_given (lookup classes) (codes "class") ∙ is.class;
-    resource = is.resource ∙ given (codes "resource");
+  ask : (command : List ℕ) (s : PolicySource) (a : Ask) → IsAsk one command s a → IsAsk other command s a
+  ask command s a is = record {
+    about = rw (
+      sym (same (codes "command")),
+      sym (same (codes "as")),
+      sym (same (codes "resource")),
+      sym (same (codes "level")),
+      sym (same (codes "class")),
+    )
+        is.about;
     console = is.console ∙ same (codes "console");
-    level = of_given (lookup levels) (codes "level") ∙ is.level;
-    why = is.why ∙ set (codes "why");
-    json = is.json ∙ set (codes "json");
-    source = source q.source is.source;
+    asks = asks command a.question.asks is.asks;
+    form = is.form ∙ ap form_of (set (codes "json"));
+    policy = source s is.policy;
   }
 
   answered : (l : Lines) → IsLines one l → IsLines other l
-  answered Script is = sym (set (codes "now")) ∙ is
+  answered (Script file) is = (sym (set (codes "now")) ∙ is.0, is.1 ∙ same (codes "file"))
   answered (Now console) is = (sym (set (codes "now")) ∙ is.0, is.1 ∙ same (codes "console"))
 
-  run : (r : Run) → IsRun one r → IsRun other r
-  run r is = record {
-    database = is.database ∙ same (codes "db");
-    policy = is.policy ∙ same (codes "policy");
-    lines = answered r.lines is.lines;
-  }
+  run : (policy : Option (Bor (List ℕ))) (l : Lines) → IsRun one policy l → IsRun other policy l
+  run policy l is = (is.0 ∙ same (codes "policy"), answered l is.1)
 
   import : (i : Import) → IsImport one i → IsImport other i
   import i is = record {
-    path = is.path ∙ given (codes "db");
     batch = of_given (number_between 1 999_999_999) (codes "batch") ∙ is.batch;
     console = is.console ∙ same (codes "console");
+    file = is.file ∙ same (codes "file");
   }
 
   service : (s : Serve) → IsService one s → IsService other s
   service s is = record {
-    path = is.path ∙ given (codes "db");
     address = at_once (same (codes "port")) (same (codes "socket")) (same (codes "socket-mode")) s.address is.address;
     count = of_given (number_between 1 1_000_000) (codes "count") ∙ is.count;
     waits = of_given (λ (text : List ℕ). option_map longest (number_between 0 3_600 text)) (codes "timeout") ∙ is.waits;
@@ -147,61 +145,44 @@ module _ (one other : List ℕ → Option (List ℕ)) (same : (name : List ℕ) 
     log = is.log ∙ set (codes "log");
   }
 
-  enquiry : (e : Enquiry) → IsEnquiry one e → IsEnquiry other e
-  enquiry e is = record {
-    asked = rw (
-      sym (same (codes "command")),
-      sym (same (codes "as")),
-      sym (same (codes "resource")),
-      sym (same (codes "level")),
-      sym (same (codes "class")),
-    )
-        is.asked;
-    console = is.console ∙ same (codes "console");
-    allowed = is.allowed ∙ set (codes "allowed");
-    json = is.json ∙ set (codes "json");
-    source = source e.source is.source;
-  }
-
   first : (f : First) → IsFirst (one (codes "from")) (one (codes "last")) f → IsFirst (other (codes "from")) (other (codes "last")) f
   first f is = rw (sym (same (codes "from")), sym (same (codes "last"))) is
 
   filter : (f : Filter) → IsFilter one f → IsFilter other f
   filter f is = record {
-    since = ap (option_map moment_of) (sym (same (codes "since"))) ∙ is.since;
-    until = ap (option_map moment_of) (sym (same (codes "until"))) ∙ is.until;
     user = is.user ∙ same (codes "user");
     console = is.console ∙ same (codes "console");
-    codes_are = subst (λ (o : Option (List ℕ)). AreCodes o f.codes) (same (codes "code")) is.codes_are;
+    codes_are = is.codes_are ∙ same (codes "code");
   }
 
-  account : (a : Account) → IsAccount one a → IsAccount other a
-  account a is = record {
-    path = is.path ∙ given (codes "db");
-    first = first a.query.first is.first;
+  account : (q : AskedQuery) → IsAccount one q → IsAccount other q
+  account q is = record {
+    first = first q.query.first is.first;
     count = ap (λ (o : Option (List ℕ)). option_map_or number_of_rows o (Some all_rows)) (sym (same (codes "count"))) ∙ is.count;
-    filter = filter a.query.filter is.filter;
+    since = ap (option_map (row_time_of day.First)) (sym (same (codes "since"))) ∙ is.since;
+    until = ap (option_map (row_time_of day.Last)) (sym (same (codes "until"))) ∙ is.until;
+    filter = filter q.query.filter is.filter;
     json = is.json ∙ set (codes "json");
   }
 
-  policy_check : (p : PolicyCheck) → IsPolicyCheck one p → IsPolicyCheck other p
-  policy_check p is = record {
-    source = source p.source is.source;
+  policy_check : (s : PolicySource) (p : PolicyCheck) → IsPolicyCheck one s p → IsPolicyCheck other s p
+  policy_check s p is = record {
+    policy = source s is.policy;
     allowed = is.allowed ∙ same (codes "allow");
-    json = is.json ∙ set (codes "json");
+    form = is.form ∙ ap form_of (set (codes "json"));
   }
 
   pub task_is : (command : List ℕ) (t : Task) → IsTaskOf one command t → IsTaskOf other command t
-  task_is command (task.Explain q) is = (is.0, sym (same (codes "command")) ∙ is.1, question q is.2)
-  task_is command (task.ExplainCommand q) is = (is.0, command_question q is.1)
-  task_is command (task.Run r) is = (is.0, run r is.1)
-  task_is command (task.Import i) is = (is.0, import i is.1)
-  task_is command (task.Export path) is = (is.0, is.1 ∙ given (codes "db"))
-  task_is command (task.Serve s) is = (is.0, service s is.1)
-  task_is command (task.Who e) is = (is.0, enquiry e is.1)
-  task_is command (task.Account a) is = (is.0, account a is.1)
+  task_is command (task.Ask s (question.Ask a)) is = ask command s a is
+  task_is command (task.Ask s (question.Check p)) is = (is.0, policy_check s p is.1)
+  task_is command (task.Account path q) is = (is.0, is.1 ∙ given (codes "db"), account q is.2)
+  task_is command (task.Work path (work.Run policy l)) is = (is.0, sym (same (codes "db")) ∙ is.1, run policy l is.2)
+  task_is command (task.Work path (work.Import i)) is = (is.0, is.1 ∙ given (codes "db"), import i is.2)
+  task_is command (task.Work path work.Export) is = (is.0, is.1 ∙ given (codes "db"))
+  task_is command (task.Work path (work.Serve s)) is = (is.0, is.1 ∙ given (codes "db"), service s is.2)
+  task_is command (task.InMemory policy l) is = (is.0, sym (same (codes "db")) ∙ is.1, run policy l is.2)
   task_is command task.Digest is = is
-  task_is command (task.Check p) is = (is.0, policy_check p is.1)
+  task_is command task.Commands is = is
 
   same_questions : (o : Option (List ℕ)) → question_checks one o ≡ question_checks other o
   same_questions None =
@@ -212,6 +193,7 @@ module _ (one other : List ℕ → Option (List ℕ)) (same : (name : List ℕ) 
         same (codes "level"),
         same (codes "class"),
         same (codes "console"),
+        same (codes "file"),
         same (codes "policy"),
         same (codes "db"),
       )
@@ -219,10 +201,12 @@ module _ (one other : List ℕ → Option (List ℕ)) (same : (name : List ℕ) 
   same_questions (Some text) =
       rw (
         same (codes "user"),
+        same (codes "command"),
         same (codes "as"),
         same (codes "resource"),
         same (codes "level"),
         same (codes "console"),
+        same (codes "file"),
         same (codes "policy"),
         same (codes "db"),
       )
@@ -232,7 +216,7 @@ module _ (one other : List ℕ → Option (List ℕ)) (same : (name : List ℕ) 
   questions = same_questions (one (codes "command")) ∙ ap (question_checks other) (same (codes "command"))
 
   runs : run_checks one ≡ run_checks other
-  runs = rw (same (codes "console"), same (codes "now")) refl
+  runs = rw (same (codes "console"), same (codes "now"), same (codes "file")) refl
 
   imports : import_checks one ≡ import_checks other
   imports = rw (same (codes "batch"), same (codes "console")) refl
@@ -258,6 +242,7 @@ module _ (one other : List ℕ → Option (List ℕ)) (same : (name : List ℕ) 
         same (codes "level"),
         same (codes "class"),
         same (codes "console"),
+        same (codes "file"),
         same (codes "policy"),
         same (codes "db"),
       )
@@ -278,7 +263,7 @@ module _ (one other : List ℕ → Option (List ℕ)) (same : (name : List ℕ) 
       refl
 
   policies : policy_checks one ≡ policy_checks other
-  policies = rw (same (codes "allow"), same (codes "policy"), same (codes "db")) refl
+  policies = rw (same (codes "allow"), same (codes "file"), same (codes "policy"), same (codes "db")) refl
 
   pub same_options : (command : List ℕ) → options_of one command ≡ options_of other command
   same_options command =
@@ -292,7 +277,7 @@ module _ (one other : List ℕ → Option (List ℕ)) (same : (name : List ℕ) 
       ∙ ap (λ p. options_by asked (run_checks other) (import_checks other) (service_checks other) (who_checks other) p (account_checks one) command) policies
       ∙ ap (λ a. options_by asked (run_checks other) (import_checks other) (service_checks other) (who_checks other) (policy_checks other) a command) rows
 
--- a name and rows that are about one thing
+-- a name and rows that mean the same
 module _ {B : Type 0} (name_of : B → List ℕ) (rows_in : B → List Row) where
   abbrev both : B → List ℕ × List Row
   both b = (name_of b, rows_in b)

@@ -36,7 +36,7 @@ is_free_line : is_simple_and_free command_line ≡ true
 unfolding clap_on_literals
 is_free_line = refl
 
--- if the words are those after the first of all that were given
+-- if the arguments are those after the first of all that were given
 module _ (built : Command) (is : app_of built ≡ command_line) (given after : List (String Global)) (rest : after ≡ drop 1 given) where
   same_words : map string_bytes after ≡ words_after given
   same_words = ap (map string_bytes) rest
@@ -52,7 +52,7 @@ module _ (built : Command) (is : app_of built ≡ command_line) (given after : L
       subst (λ words. FailsBy (fault_of command_line words) result) same_words
       (subst (λ a. is_simple_and_free a ≡ true → FailsBy (fault_of a (map string_bytes after)) result) is fails is_free_line)
 
--- the words after the first
+-- the arguments after the first
 pub none_after : {A : Type 0} (xs : List A) → length xs ≡ 0 → xs ≡ drop 1 xs
 none_after [] none = refl
 none_after (x ∷ xs) none = absurd (omega (arith, none))

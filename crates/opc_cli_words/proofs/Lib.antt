@@ -1,7 +1,8 @@
 pub mod Mistakes
 pub mod Numbers
+pub mod Letters
+pub mod Joining
 pub mod Printed
-pub mod Stars
 pub mod Asked
 pub mod CommandLine
 pub mod Reading

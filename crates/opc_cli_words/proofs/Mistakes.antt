@@ -14,3 +14,12 @@ pub first_follows : (one other : List Check) → first_mistake one ≡ None → 
 first_follows [] other none = refl
 first_follows ((wrong, true) ∷ checks) other none = first_follows checks other none
 first_follows ((wrong, false) ∷ checks) other none = absurd (cc)
+
+-- of four checks, the last
+pub last_of_four : (one two three four : Check) → one.1 ≡ true → two.1 ≡ true → three.1 ≡ true → four.1 ≡ false
+    → first_mistake (one ∷ two ∷ three ∷ four ∷ []) ≡ Some four.0
+last_of_four (a, true) (b, true) (c, true) (d, false) h k l m = refl
+last_of_four (a, false) two three four h k l m = absurd (cc)
+last_of_four (a, true) (b, false) three four h k l m = absurd (cc)
+last_of_four (a, true) (b, true) (c, false) four h k l m = absurd (cc)
+last_of_four (a, true) (b, true) (c, true) (d, true) h k l m = absurd (cc)

@@ -1,4 +1,4 @@
--- A text that was printed in pieces, of which the last was written if that went well.
+-- A text that was printed in pieces, of which the last was written if that succeeded.
 use Rattle.std.proofs.Common.{◌≡◌, ◌++◌, ℕ, List, Option, subst, sym}
 use Rattle.std.specs.Prelude.{OnOk, Result, Ok, Err}
 use Rattle.std.specs.Io.KnownBytes.{Appends}

@@ -1,4 +1,4 @@
--- What is read of the words, by what `clap` makes of them.
+-- What is read from the arguments, by what `clap` makes of them.
 use Rattle.std.proofs.Common.{◌≡◌, ◌∙◌, ◌⊎◌, ℕ, List, [], ◌∷◌, Option, None, inl, inr, refl, subst, sym}
 use Rattle.std.specs.Prelude.{Bool, false, if◌then◌else◌, is_some, true, Result, Ok, Err}
 use Rattle.clap.specs.Faults.{check_fault, defaults_fault, entered_fault, fault_of, level_fault, settle_fault, walk_fault}
@@ -18,7 +18,7 @@ use Rattle.clap.specs.declared.error.kind.ErrorKind.TheVariants.{
 use Rattle.opc_io.specs.declared.watched.Watched.{Watched}
 use Rattle.opc_cli_failures.specs.declared.status.Status.{Status}
 use Rattle.opc_cli_failures.specs.declared.status.Status.TheVariants.{Done, Refused, BadInput, Failed}
-use Rattle.opc_cli_words.specs.declared.words.Task.{Task}
+use Rattle.opc_cli_tasks.specs.declared.task.Task.{Task}
 use Rattle.opc_cli_words.specs.CommandLine.{command_line}
 use Rattle.opc_cli_words.specs.Reading.{AreRead, AskForNone, IsHelp, IsHelpReported, IsKindReported, IsTaskRead, IsReportedMistake, IsVersionReported}
 use Rattle.opc_cli_words.specs.Tasks.{AsksFor}
@@ -39,7 +39,7 @@ unnamed : (rows : List Row) (found : Option (List ℕ × List Row)) → found �
 unnamed rows found none fine = one_of_two _ DisplayHelpOnMissingArgumentOrSubcommand MissingSubcommand
     (subst (λ f. check_fault (built command_line).top rows (is_some f) ≡ []) none fine)
 
--- a level that takes its words passes the last checks
+-- a level that takes its arguments passes the last checks
 level_ends : (s : Shape) (names : Names) (held : Held) (words : List (List ℕ)) (has : Bool) (below : Kinds)
     → level_fault s names held words has below ≡ [] → check_fault s (finished s.rules (walk s.rules names held words).held) has ≡ []
 level_ends s names held words has below taken =
@@ -52,7 +52,7 @@ level_ends s names held words has below taken =
     (last_is_empty below (or_else last_use (or_else presets checks))
     (last_is_empty (walk_fault s names (walk_from held) words) (or_else below (or_else last_use (or_else presets checks))) taken)))
 
--- words that the command line takes name a command
+-- arguments that the command line takes name a command
 some_command : (words : List (List ℕ)) → fault_of command_line words ≡ [] → subcommand_of command_line words ≡ None → ⊥
 some_command words taken none =
     let a = built command_line in
@@ -66,7 +66,7 @@ not_memory kind (inl help) memory = absurd (cc)
 not_memory kind (inr version) memory = absurd (cc)
 
 module _ {E : Type 0} (shown : E → Option (List ℕ)) (quiet reported : Watched E) where
-  -- if the command line takes the words
+  -- if the command line takes the arguments
   pub task_read : {W : Type 0} (contents : W → Option (List ℕ)) (output : W) (words : List (List ℕ)) → fault_of command_line words ≡ []
       → (found : Option (List ℕ × List Row)) → found ≡ subcommand_of command_line words
       → (result : Result Task Status) → IsTaskRead shown quiet reported found result → AreRead words contents shown output output quiet reported result

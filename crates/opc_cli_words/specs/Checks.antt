@@ -31,7 +31,7 @@ abbrev pub IsReadAs : {A : Type 0} → (A → Type 0) → Check → Result A Mis
 IsReadAs is check (Ok a) = is a × (check.1 ≡ true)
 IsReadAs is check (Err mistake) = (mistake ≡ check.0) × (check.1 ≡ false)
 
--- What these checks are for was read, or the first mistake was answered.
+-- A result passed these checks and was read, or the first mistake was answered.
 abbrev pub AreReadAs : {A : Type 0} → (A → Type 0) → List Check → Result A Mistake → Type 0
 AreReadAs is checks (Ok a) = is a × (first_mistake checks ≡ None)
 AreReadAs is checks (Err mistake) = first_mistake checks ≡ Some mistake

@@ -1,22 +1,25 @@
 -- The codes of notes, as `check --allow` takes them.
-use Rattle.std.specs.Prelude.{◌==◌, ◌&&◌, ℕ, Bool, true, false, List, [], ◌∷◌, Option, nat_le}
+use Rattle.std.specs.Prelude.{◌==◌, ℕ, Bool, true, List, [], ◌∷◌, Option, codes}
+use Rattle.std.specs.List.{list_all, list_any, slice_split}
 use Rattle.std.specs.Option.{option_map_or}
+use Rattle.std.specs.Str.{bytes_eq}
 use Rattle.opc_cli_words.specs.Checks.{Check}
 use Rattle.opc_cli_words.specs.declared.mistake.Mistake.TheVariants as wrong
 use Rattle.opc_cli_words.specs.declared.mistake.Opt.TheVariants as opt
 
-abbrev pub is_digit : ℕ → Bool
-is_digit c = nat_le 48 c && nat_le c 57
+-- those that exist; N07 no longer does
+abbrev pub note_codes : List (List ℕ)
+note_codes =
+    codes "N01" ∷ codes "N02" ∷ codes "N03" ∷ codes "N04" ∷ codes "N05" ∷ codes "N06"
+    ∷ codes "N08" ∷ codes "N09" ∷ codes "N10" ∷ codes "N11" ∷ codes "N12" ∷ codes "N13"
+    ∷ codes "N14" ∷ codes "N15" ∷ codes "N16" ∷ codes "N17" ∷ codes "N18" ∷ codes "N19" ∷ []
 
--- `N` and two digits
-abbrev pub is_code : (n tens ones : ℕ) → Bool
-is_code n tens ones = (n == 78) && (is_digit tens && is_digit ones)
+abbrev pub is_note_code : List ℕ → Bool
+is_note_code text = list_any (bytes_eq text) note_codes
 
--- a code, or one and after a comma codes again
-abbrev pub are_codes : List ℕ → Bool
-are_codes (n ∷ tens ∷ ones ∷ []) = is_code n tens ones
-are_codes (n ∷ tens ∷ ones ∷ comma ∷ rest) = is_code n tens ones && ((comma == 44) && are_codes rest)
-are_codes text = false
+-- codes with commas between them
+abbrev pub are_note_codes : List ℕ → Bool
+are_note_codes text = list_all is_note_code (slice_split (λ c. c == 44) text)
 
 abbrev pub allow_check : (allowed : Option (List ℕ)) → Check
-allow_check allowed = (wrong.Unread opt.Allow, option_map_or are_codes allowed true)
+allow_check allowed = (wrong.Unread opt.Allow, option_map_or are_note_codes allowed true)

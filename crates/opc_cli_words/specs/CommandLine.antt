@@ -6,9 +6,13 @@ use Rattle.clap.specs.declared.builder.action.ArgAction.TheVariants.{Set, SetTru
 use Rattle.clap.specs.declared.builder.command.Command.{Command}
 use Rattle.clap.specs.declared.builder.command.Command.TheViews.{out-Command}
 
+-- an argument of this name, which is a value alone
+abbrev pub positional : List ℕ → Rule
+positional name = record (new_rule name) { action = Some Set; value_names = 1 }
+
 -- an option of this name, which takes one value
 abbrev pub valued : List ℕ → Rule
-valued name = record (new_rule name) { long = Some name; action = Some Set; value_names = 1 }
+valued name = record (positional name) { long = Some name }
 
 -- one that is required
 abbrev pub needed : List ℕ → Rule
@@ -32,19 +36,21 @@ question_options =
     valued (codes "command") ∷ valued (codes "as") ∷ valued (codes "resource") ∷ valued (codes "level")
     ∷ preset (codes "class") (codes "OPERCMDS") ∷ valued (codes "console") ∷ flag (codes "json") ∷ []
 
--- where a policy comes from
+-- the source of a policy
 abbrev pub source_options : List Rule
-source_options = valued (codes "policy") ∷ valued (codes "db") ∷ []
+source_options = valued (codes "policy") ∷ valued (codes "db") ∷ positional (codes "file") ∷ []
 
 abbrev pub explain_options : List Rule
 explain_options = needed (codes "user") ∷ question_options ++ flag (codes "why") ∷ source_options
 
 abbrev pub run_options : List Rule
 run_options =
-    valued (codes "db") ∷ valued (codes "policy") ∷ flag (codes "now") ∷ valued (codes "console") ∷ []
+    valued (codes "db") ∷ valued (codes "policy") ∷ flag (codes "now") ∷ valued (codes "console")
+    ∷ positional (codes "file") ∷ []
 
 abbrev pub import_options : List Rule
-import_options = needed (codes "db") ∷ needed (codes "batch") ∷ valued (codes "console") ∷ []
+import_options =
+    needed (codes "db") ∷ needed (codes "batch") ∷ valued (codes "console") ∷ positional (codes "file") ∷ []
 
 abbrev pub export_options : List Rule
 export_options = needed (codes "db") ∷ []
@@ -84,10 +90,11 @@ commands =
     ∷ command (codes "check") check_options
     ∷ command (codes "account") account_options
     ∷ command (codes "digest") []
+    ∷ command (codes "commands") []
     ∷ []
 
--- the program before its commands: it has a version, a command is required, words that are missing are answered with the
--- help, and the program's own name is none of the words
+-- the program before its commands: it has a version, a command is required, missing arguments are answered with the
+-- help, and the program's own name is no argument
 abbrev pub program : App
 program = record {
   top = record (new_shape (codes "opcmds")) {

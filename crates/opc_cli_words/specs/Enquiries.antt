@@ -1,9 +1,11 @@
--- What `opcmds explain` and `opcmds who` are asked about, by the values of their options.
+-- The subject of `opcmds explain` and `opcmds who`, by the values of their options.
 use Rattle.std.specs.Prelude.{
   ◌≡◌,
   ◌&&◌,
+  ◌||◌,
   ℕ,
   Bool,
+  false,
   List,
   [],
   ◌∷◌,
@@ -17,19 +19,21 @@ use Rattle.std.specs.Prelude.{
   is_none,
   is_some,
   nat_eq,
+  not,
   unwrap_or,
 }
 use Rattle.std.specs.List.{starts_with}
 use Rattle.std.specs.Option.{option_map_or}
 use Rattle.std.specs.Str.{bytes_eq}
+use Rattle.opc_answers.specs.Needed.{is_logon}
+use Rattle.opc_answers.specs.declared.question.About.{About}
+use Rattle.opc_answers.specs.declared.question.About.TheVariants.{Command, Access}
 use Rattle.opc_names.specs.Names.{name_fault, resource_rule, unit_rule}
 use Rattle.opc_names.specs.Spellings.{classes, levels, lookup}
 use Rattle.opc_names.specs.declared.rule.NameRule.{NameRule}
 use Rattle.opc_terms.specs.declared.unit_kind.UnitKindAt.{UnitKindAt}
 use Rattle.opc_terms.specs.declared.unit_kind.UnitKindAt.TheVariants.{Absent, Job, Stc, Tsu}
 use Rattle.opc_cli_words.specs.Checks.{Check}
-use Rattle.opc_cli_words.specs.declared.who.Asked.{Asked}
-use Rattle.opc_cli_words.specs.declared.who.Asked.TheVariants.{Command, Access}
 use Rattle.opc_cli_words.specs.declared.mistake.Mistake.TheVariants as wrong
 use Rattle.opc_cli_words.specs.declared.mistake.Opt.TheVariants as opt
 
@@ -86,10 +90,14 @@ enquiry_checks (Some text) kind resource level class = command_checks kind resou
 enquiry_checks None kind resource level class =
     access_checks kind resource level ++ class_check class ∷ resource_check resource ∷ level_check level ∷ []
 
--- It is asked about the command that is given, or about the level of access.
-abbrev pub IsAsked : (command kind resource level : Option (List ℕ)) → (class : List ℕ) → Asked → Type 0
-IsAsked command kind resource level class (Command text unit) =
+-- A question about a LOGON needs a console.
+abbrev pub logon_check : (command console : Option (List ℕ)) → Check
+logon_check command console = (wrong.LogonNowhere, not (option_map_or is_logon command false) || is_some console)
+
+-- The question is about the command that is given, or about the level of access.
+abbrev pub IsAbout : (command kind resource level : Option (List ℕ)) → (class : List ℕ) → About → Type 0
+IsAbout command kind resource level class (Command text unit) =
     (command ≡ Some text.now) × (kind_given kind ≡ Some unit)
-IsAsked command kind resource level class (Access of name needed) =
+IsAbout command kind resource level class (Access of name needed) =
     (command ≡ None) × (lookup classes class ≡ Some of) × (unwrap_or resource [] ≡ name)
     × (lookup levels (unwrap_or level []) ≡ Some needed)

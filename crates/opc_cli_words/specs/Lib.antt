@@ -2,12 +2,16 @@ pub mod Accounts
 pub mod Checks
 pub mod Codes
 pub mod Enquiries
+pub mod Joined
 pub mod Mistakes
+pub mod Moments
 pub mod Numbers
 pub mod Options
+pub mod Quotes
 pub mod Runs
 pub mod Services
 pub mod Sources
+pub mod Spans
 pub mod CommandLine
 pub mod Reading
 pub mod Tasks

@@ -29,18 +29,20 @@ option_name opt.Timeout = codes "timeout"
 option_name opt.Until = codes "until"
 option_name opt.User = codes "user"
 
--- what is wrong: a value that does not read, an option without another that it needs, or one of six mistakes with texts
--- of their own
+-- what is wrong: an invalid value, an option without another that it needs, or a mistake with a text of its own
 abbrev pub mistake_text : Mistake → List ℕ
-mistake_text (wrong.Unread option) = codes "the value of --" ++ option_name option ++ codes " does not read"
+mistake_text (wrong.Unread option) = codes "invalid value for --" ++ option_name option
 mistake_text (wrong.Lacks given needed) =
     codes "--" ++ option_name given ++ codes " needs --" ++ option_name needed
 mistake_text wrong.NobodyAlone = codes "--user - needs --console"
+mistake_text wrong.LogonNowhere = codes "LOGON is asked about at a console: give --console"
 mistake_text wrong.NotOneAddress = codes "serve needs exactly one of --port and --socket"
 mistake_text wrong.NotOneQuestion = codes "a question needs exactly one of --command and --resource"
 mistake_text wrong.TwoBeginnings = codes "account takes --from or --last, not both"
-mistake_text wrong.TwoSources = codes "give --policy or --db, not both"
-mistake_text wrong.NoCommand = codes "the value of COMMAND does not read"
+mistake_text wrong.TwoInputs = codes "run takes --now or FILE, not both"
+mistake_text wrong.TwoSources = codes "give one of FILE, --policy and --db"
+mistake_text wrong.Unquoted = codes "--command takes one text: --command 'C PAYROLL'"
+mistake_text wrong.NoCommand = codes "invalid value for COMMAND"
 
 -- the line, with the name of the help
 abbrev pub mistake_line : (command : List ℕ) → Mistake → List ℕ

@@ -1,4 +1,4 @@
--- Numbers among the words of the command line.
+-- Numbers among the arguments of the command line.
 use Rattle.std.specs.Prelude.{ℕ, List, Option, Some, None, ◌&&◌, ◌==◌, length, not, nat_le, if◌then◌else◌}
 use Rattle.std.specs.Char.{is_ascii_digit}
 use Rattle.std.specs.List.{list_all}

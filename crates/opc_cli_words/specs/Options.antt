@@ -1,4 +1,4 @@
--- What the options of each command say, by the values that the words give them, and how they are checked.
+-- What the options of each command mean, by the values that the arguments give them, and how they are checked.
 use Rattle.std.specs.Prelude.{
   ◌≡◌,
   ◌==◌,
@@ -17,6 +17,7 @@ use Rattle.std.specs.Prelude.{
   None,
   codes,
   if◌then◌else◌,
+  is_none,
   is_some,
   not,
   option_map,
@@ -27,41 +28,54 @@ use Rattle.std.specs.Option.{option_copied, option_map_or}
 use Rattle.std.specs.Str.{bytes_eq}
 use Rattle.std.specs.declared.time.Duration.{Duration}
 use Rattle.opc_names.specs.Names.{console_rule, user_rule}
-use Rattle.opc_names.specs.Spellings.{classes, levels, lookup}
-use Rattle.opc_cli_words.specs.declared.check.PolicyCheck.{PolicyCheck}
-use Rattle.opc_cli_words.specs.declared.command_question.CommandQuestion.{CommandQuestion}
-use Rattle.opc_cli_words.specs.declared.import.Import.{Import}
-use Rattle.opc_cli_words.specs.declared.question.Question.{Question}
-use Rattle.opc_cli_words.specs.declared.serve.Serve.{Serve}
-use Rattle.opc_cli_words.specs.declared.who.Enquiry.{Enquiry}
+use Rattle.opc_answers.specs.Needed.{is_logon}
+use Rattle.opc_answers.specs.declared.question.Asks.{Asks}
+use Rattle.opc_answers.specs.declared.question.Asks.TheVariants.{Why, Who}
+use Rattle.opc_check.specs.declared.form.Form.{Form}
+use Rattle.opc_check.specs.declared.form.Form.TheVariants.{Json, Text}
+use Rattle.opc_cli_tasks.specs.declared.question.Ask.{Ask}
+use Rattle.opc_cli_tasks.specs.declared.question.PolicyCheck.{PolicyCheck}
+use Rattle.opc_cli_tasks.specs.declared.source.PolicySource.{PolicySource}
+use Rattle.opc_cli_tasks.specs.declared.work.Import.{Import}
+use Rattle.opc_cli_tasks.specs.declared.work.Serve.{Serve}
 use Rattle.opc_cli_words.specs.Checks.{Check}
 use Rattle.opc_cli_words.specs.Codes.{allow_check}
 use Rattle.opc_cli_words.specs.Enquiries.{
-  IsAsked,
+  IsAbout,
   access_checks,
   class_check,
   command_checks,
   enquiry_checks,
   is_a,
-  kind_given,
   level_check,
+  logon_check,
   resource_check,
 }
 use Rattle.opc_cli_words.specs.Numbers.{number_between}
+use Rattle.opc_cli_words.specs.Quotes.{is_verb_alone}
 use Rattle.opc_cli_words.specs.Services.{IsAddress, address_checks}
 use Rattle.opc_cli_words.specs.Sources.{IsSource, source_check}
 use Rattle.opc_cli_words.specs.declared.mistake.Mistake.TheVariants as wrong
 use Rattle.opc_cli_words.specs.declared.mistake.Opt.TheVariants as opt
 
--- in nanoseconds, where 0 seconds are as long as it takes
+-- in nanoseconds, where 0 seconds are no limit
 abbrev pub longest : ℕ → Option ℕ
 longest seconds = if seconds == 0 then None else Some (seconds * 1_000_000_000)
 
--- The user may be nobody, written `-`, where a command is asked about, at a console.
+-- The user may be nobody, written `-`, in a question about a command at a console.
 abbrev pub actor_of : List ℕ → Option (List ℕ)
 actor_of text = if bytes_eq text (codes "-") then None else Some text
 
--- In these, `value` is what the words give an option, by its name.
+-- the user of a question; it may be nobody only if the question is about a command
+abbrev pub actor_in : (command : Option (List ℕ)) → (user : List ℕ) → Option (List ℕ)
+actor_in (Some text) user = actor_of user
+actor_in None user = Some user
+
+abbrev pub form_of : (json : Bool) → Form
+form_of true = Json
+form_of false = Text
+
+-- In these, `value` is what the arguments give an option, by its name.
 module _ (value : List ℕ → Option (List ℕ)) where
   -- the value of an option that has one, and else nothing
   abbrev pub given : List ℕ → List ℕ
@@ -115,8 +129,12 @@ module _ (value : List ℕ → Option (List ℕ)) where
     not (is_set (codes "strict")) || is_some (value (codes "port")),
   )
 
-  abbrev pub actor_option : Check
-  actor_option = (wrong.Unread opt.User, option_map_or (is_a user_rule) (actor_of (given (codes "user"))) true)
+  -- nobody logs on for nobody
+  abbrev pub actor_option : (text : List ℕ) → Check
+  actor_option text = (
+    wrong.Unread opt.User,
+    option_map_or (is_a user_rule) (actor_of (given (codes "user"))) (not (is_logon text)),
+  )
 
   abbrev pub nobody_option : Check
   nobody_option = (
@@ -125,12 +143,23 @@ module _ (value : List ℕ → Option (List ℕ)) where
   )
 
   abbrev pub source_option : Check
-  source_option = source_check (value (codes "policy")) (value (codes "db"))
+  source_option = source_check (value (codes "file")) (value (codes "policy")) (value (codes "db"))
+
+  -- A command of one word beside a file is part of a command that is not quoted.
+  abbrev pub quotes_option : Check
+  quotes_option = (
+    wrong.Unquoted,
+    is_none (value (codes "file")) || not (option_map_or is_verb_alone (value (codes "command")) false),
+  )
+
+  abbrev pub logon_option : (command : Option (List ℕ)) → Check
+  logon_option command = logon_check command (value (codes "console"))
 
   -- the checks of `explain`, about a command or about a level of access
   abbrev pub question_checks : (command : Option (List ℕ)) → List Check
-  question_checks (Some text) = actor_option ∷ command_checks (value (codes "as"))
-      (value (codes "resource")) (value (codes "level")) ++ console_option ∷ nobody_option ∷ source_option ∷ []
+  question_checks (Some text) = actor_option text ∷ command_checks (value (codes "as"))
+      (value (codes "resource")) (value (codes "level"))
+      ++ console_option ∷ nobody_option ∷ quotes_option ∷ source_option ∷ logon_option (Some text) ∷ []
   question_checks None = user_option ∷ access_checks (value (codes "as"))
       (value (codes "resource")) (value (codes "level"))
       ++ class_option ∷ resource_option ∷ console_option ∷ level_option ∷ source_option ∷ []
@@ -147,42 +176,41 @@ module _ (value : List ℕ → Option (List ℕ)) where
   -- of `who`,
   abbrev pub who_checks : List Check
   who_checks = enquiry_checks (value (codes "command")) (value (codes "as")) (value (codes "resource"))
-      (value (codes "level")) (given (codes "class")) ++ console_option ∷ source_option ∷ []
+      (value (codes "level")) (given (codes "class"))
+      ++ console_option ∷ quotes_option ∷ source_option ∷ logon_option (value (codes "command")) ∷ []
 
   -- and of `check`
   abbrev pub policy_checks : List Check
   policy_checks = allow_check (value (codes "allow")) ∷ source_option ∷ []
 
-  -- the words of `explain`, about a level of access
-  pub record IsQuestion (question : Question) : Type 0 where
-    pub user : question.user ≡ given (codes "user")
-    pub class : lookup classes (given (codes "class")) ≡ Some question.class
-    pub resource : question.resource ≡ given (codes "resource")
-    pub console : question.console ≡ value (codes "console")
-    pub level : lookup levels (given (codes "level")) ≡ Some question.level
-    pub why : question.why ≡ is_set (codes "why")
-    pub json : question.json ≡ is_set (codes "json")
-    pub source : IsSource (value (codes "policy")) (value (codes "db")) question.source
+  -- The level that is held behind each pattern is shown if that is requested, and always as JSON.
+  abbrev pub has_levels : Bool
+  has_levels = is_set (codes "why") || is_set (codes "json")
 
-  -- and about a command
-  pub record IsCommandQuestion (question : CommandQuestion) : Type 0 where
-    pub user : question.user ≡ actor_of (given (codes "user"))
-    pub text : value (codes "command") ≡ Some question.text.now
-    pub kind : kind_given (value (codes "as")) ≡ Some question.kind
-    pub console : question.console ≡ value (codes "console")
-    pub why : question.why ≡ is_set (codes "why")
-    pub json : question.json ≡ is_set (codes "json")
-    pub source : IsSource (value (codes "policy")) (value (codes "db")) question.source
+  -- `explain` asks why, for a user or for nobody, and `who` asks who may.
+  abbrev pub IsAskedBy : (command : List ℕ) → Asks → Type 0
+  IsAskedBy command (Why actor levels) =
+      (command ≡ codes "explain") × (actor ≡ actor_in (value (codes "command")) (given (codes "user")))
+      × (levels ≡ has_levels)
+  IsAskedBy command (Who allowed) = (command ≡ codes "who") × (allowed ≡ is_set (codes "allowed"))
+
+  -- the arguments of either
+  pub record IsAsk (command : List ℕ) (source : PolicySource) (ask : Ask) : Type 0 where
+    pub about : IsAbout (value (codes "command")) (value (codes "as")) (value (codes "resource"))
+        (value (codes "level")) (given (codes "class")) ask.question.about
+    pub console : ask.question.console ≡ value (codes "console")
+    pub asks : IsAskedBy command ask.question.asks
+    pub form : ask.form ≡ form_of (is_set (codes "json"))
+    pub policy : IsSource (value (codes "file")) (value (codes "policy")) (value (codes "db")) source
 
   -- of `import`
   pub record IsImport (import : Import) : Type 0 where
-    pub path : import.path.now ≡ given (codes "db")
     pub batch : batch_of ≡ Some import.batch
     pub console : import.console ≡ value (codes "console")
+    pub file : option_copied import.file ≡ value (codes "file")
 
   -- of `serve`
   pub record IsService (serve : Serve) : Type 0 where
-    pub path : serve.path.now ≡ given (codes "db")
     pub address : IsAddress (value (codes "port")) (value (codes "socket")) (value (codes "socket-mode"))
         serve.address
     pub count : count_of ≡ Some serve.count
@@ -190,17 +218,8 @@ module _ (value : List ℕ → Option (List ℕ)) where
     pub strict : serve.strict ≡ is_set (codes "strict")
     pub log : serve.log ≡ is_set (codes "log")
 
-  -- of `who`
-  pub record IsEnquiry (enquiry : Enquiry) : Type 0 where
-    pub asked : IsAsked (value (codes "command")) (value (codes "as")) (value (codes "resource"))
-        (value (codes "level")) (given (codes "class")) enquiry.asked
-    pub console : enquiry.console ≡ value (codes "console")
-    pub allowed : enquiry.allowed ≡ is_set (codes "allowed")
-    pub json : enquiry.json ≡ is_set (codes "json")
-    pub source : IsSource (value (codes "policy")) (value (codes "db")) enquiry.source
-
   -- and of `check`
-  pub record IsPolicyCheck (check : PolicyCheck) : Type 0 where
-    pub source : IsSource (value (codes "policy")) (value (codes "db")) check.source
+  pub record IsPolicyCheck (source : PolicySource) (check : PolicyCheck) : Type 0 where
+    pub policy : IsSource (value (codes "file")) (value (codes "policy")) (value (codes "db")) source
     pub allowed : option_copied check.allowed ≡ value (codes "allow")
-    pub json : check.json ≡ is_set (codes "json")
+    pub form : check.form ≡ form_of (is_set (codes "json"))

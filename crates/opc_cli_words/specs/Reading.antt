@@ -1,4 +1,4 @@
--- What is read of the words of the command line, and what is reported if they ask for no task.
+-- What is read from the arguments of the command line, and what is reported if they ask for no task.
 use Rattle.std.specs.Prelude.{
   ◌≡◌,
   ◌≢◌,
@@ -32,16 +32,21 @@ use Rattle.opc_cli_failures.specs.declared.status.Status.{Status}
 use Rattle.opc_cli_failures.specs.declared.status.Status.TheVariants.{Done, Refused, BadInput, Failed}
 use Rattle.opc_cli_failures.specs.Printing.{IsReported}
 use Rattle.opc_cli_failures.specs.Statuses.{IsFailure}
-use Rattle.opc_cli_words.specs.declared.words.Task.{Task}
+use Rattle.opc_cli_tasks.specs.declared.task.Task.{Task}
 use Rattle.opc_cli_words.specs.CommandLine.{command_line}
+use Rattle.opc_cli_words.specs.Joined.{joined}
 use Rattle.opc_cli_words.specs.Mistakes.{mistake_line}
 use Rattle.opc_cli_words.specs.declared.mistake.Mistake.{Mistake}
 use Rattle.opc_cli_words.specs.Tasks.{AsksFor, FailsAt}
 use Rattle.opc_cli_words.specs.Version.{version_line}
 
--- the words after the first, which is the program's own name
+-- the arguments after the first, which is the program's own name
 abbrev pub words_after : List (String Global) → List (List ℕ)
 words_after words = map string_bytes (drop 1 words)
+
+-- those of the program: an option and how long ago are one
+abbrev pub arguments : List (String Global) → List (List ℕ)
+arguments words = drop 1 (joined (map string_bytes words))
 
 -- The line of a mistake was printed, and perhaps one about the value.
 pub record IsMistakePrinted (before written : Option (List ℕ)) (command : List ℕ) (mistake : Mistake) : Type 0 where
@@ -53,19 +58,19 @@ abbrev pub IsHelp : ErrorKind → Type 0
 IsHelp kind = (kind ≡ DisplayHelp) ⊎ (kind ≡ DisplayVersion)
 
 module _ (words : List (List ℕ)) where
-  -- The command line takes the words, and they ask for this task.
+  -- The command line takes the arguments, and they ask for this task.
   pub record Ask (task : Task) : Type 0 where
     pub taken : fault_of command_line words ≡ []
     pub asks : AsksFor (subcommand_of command_line words) task
 
-  -- The command line does not take them.
+  -- The command line does not take the arguments.
   pub record AreNotTaken : Type 0 where
     pub kind : ErrorKind
     pub among : IsAmong kind (fault_of command_line words)
     pub mistake : IsHelp kind → ⊥
 
 module _ {E : Type 0} (shown : E → Option (List ℕ)) (quiet reported : Watched E) where
-  -- There was no memory, or the output failed, and that is printed, unless a write failed.
+  -- An allocation or the output failed, and that is printed, unless a write failed.
   pub record IsReportedFailure : Type 0 where
     pub fault : Fault
     pub failure : IsFailure fault
@@ -91,7 +96,7 @@ module _ {E : Type 0} (shown : E → Option (List ℕ)) (quiet reported : Watche
   IsHelpReported BadInput = ⊥
   IsHelpReported Failed = IsReportedFailure
 
--- What is printed if the words ask for this: the version, whole. Of help nothing is stated.
+-- What is printed if the arguments ask for this: the version, whole. Nothing is stated about help.
 abbrev pub IsPrinted : {W : Type 0} → (contents : W → Option (List ℕ)) → (before written : W) → ErrorKind → Type 0
 IsPrinted contents before written kind =
     kind ≡ DisplayVersion → Appends (contents before) (contents written) version_line
@@ -112,14 +117,14 @@ module _ {W E : Type 0} (contents : W → Option (List ℕ)) (shown : E → Opti
   IsKindReported kind BadInput = (IsHelp kind → ⊥) × (kind ≢ OutOfMemory) × (written ≡ before)
   IsKindReported kind Failed = IsReportedFailure shown quiet reported
 
--- The command line takes the words, but there is a mistake in the options, and that is printed.
+-- The command line takes the arguments, but there is a mistake in the options, and that is printed.
 pub record AreMistaken {E : Type 0} (shown : E → Option (List ℕ)) (quiet reported : Watched E)
     (words : List (List ℕ)) : Type 0 where
   pub taken : fault_of command_line words ≡ []
   pub mistaken : IsReportedMistake shown quiet reported (subcommand_of command_line words)
 
 module _ (words : List (List ℕ)) {W : Type 0} (contents : W → Option (List ℕ)) (before written : W) where
-  -- They ask for help or for the version, and the version was printed.
+  -- The arguments ask for help or for the version, and the version was printed.
   pub record AskForHelp : Type 0 where
     pub kind : ErrorKind
     pub among : IsAmong kind (fault_of command_line words)
@@ -135,7 +140,7 @@ module _ (words : List (List ℕ)) {W E : Type 0} (contents : W → Option (List
   AskForNone BadInput = (AreNotTaken words ⊎ AreMistaken shown quiet reported words) × (written ≡ before)
   AskForNone Failed = IsReportedFailure shown quiet reported
 
-  -- The task that the words ask for, and nothing is printed; or why there is none.
+  -- The task that the arguments ask for, and nothing is printed; or why there is none.
   abbrev pub AreRead : Result Task Status → Type 0
   AreRead (Ok task) = Ask words task × (written ≡ before) × (reported ≡ quiet)
   AreRead (Err status) = AskForNone status

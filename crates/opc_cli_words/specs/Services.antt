@@ -26,8 +26,8 @@ use Rattle.std.specs.Option.{option_map_or}
 use Rattle.opc_names.specs.Spellings.{lookup}
 use Rattle.opc_cli_words.specs.Checks.{Check}
 use Rattle.opc_cli_words.specs.Numbers.{number_between}
-use Rattle.opc_cli_words.specs.declared.serve.Address.{Address}
-use Rattle.opc_cli_words.specs.declared.serve.Address.TheVariants.{Port, Socket}
+use Rattle.opc_cli_tasks.specs.declared.work.Address.{Address}
+use Rattle.opc_cli_tasks.specs.declared.work.Address.TheVariants.{Port, Socket}
 use Rattle.opc_cli_words.specs.declared.mistake.Mistake.TheVariants as wrong
 use Rattle.opc_cli_words.specs.declared.mistake.Opt.TheVariants as opt
 

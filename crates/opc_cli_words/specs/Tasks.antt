@@ -1,4 +1,4 @@
--- What the words of the command line ask for, by the matches that `clap` found.
+-- What the arguments of the command line ask for, by the matches that `clap` found.
 use Rattle.std.specs.Prelude.{
   ◌≡◌,
   ℕ,
@@ -16,14 +16,14 @@ use Rattle.std.specs.Str.{bytes_eq}
 use Rattle.clap.specs.Simple.{subcommand_rows_of}
 use Rattle.clap.specs.Walk.{Row, first_of}
 use Rattle.clap.specs.declared.parser.matches.ArgMatches.{ArgMatches}
+use Rattle.opc_cli_tasks.specs.declared.question.PolicyQuestion.TheVariants as question
+use Rattle.opc_cli_tasks.specs.declared.work.Work.TheVariants as work
 use Rattle.opc_cli_words.specs.Accounts.{IsAccount, account_checks}
 use Rattle.opc_cli_words.specs.Checks.{Check, first_mistake}
 use Rattle.opc_cli_words.specs.Options.{
-  IsCommandQuestion,
-  IsEnquiry,
+  IsAsk,
   IsImport,
   IsPolicyCheck,
-  IsQuestion,
   IsService,
   given,
   import_checks,
@@ -33,12 +33,12 @@ use Rattle.opc_cli_words.specs.Options.{
   who_checks,
 }
 use Rattle.opc_cli_words.specs.Runs.{IsRun, run_checks}
-use Rattle.opc_cli_words.specs.declared.words.Task.{Task}
-use Rattle.opc_cli_words.specs.declared.words.Task.TheVariants as task
+use Rattle.opc_cli_tasks.specs.declared.task.Task.{Task}
+use Rattle.opc_cli_tasks.specs.declared.task.Task.TheVariants as task
 use Rattle.opc_cli_words.specs.declared.mistake.Mistake.{Mistake}
 use Rattle.opc_cli_words.specs.declared.mistake.Mistake.TheVariants as wrong
 
--- In these, `value` is what the words give an option, by its name.
+-- In these, `value` is what the arguments give an option, by its name.
 module _ (value : List ℕ → Option (List ℕ)) where
   -- the checks of a command's options, in the order in which they are made
   abbrev pub options_of : (command : List ℕ) → List Check
@@ -52,30 +52,37 @@ module _ (value : List ℕ → Option (List ℕ)) where
       else if bytes_eq command (codes "check") then policy_checks value
       else if bytes_eq command (codes "account") then account_checks value
       else if bytes_eq command (codes "digest") then []
+      else if bytes_eq command (codes "commands") then []
       else (wrong.NoCommand, false) ∷ []
 
   -- what a command of this name asks for
   abbrev pub IsTaskOf : (command : List ℕ) → Task → Type 0
-  IsTaskOf command (task.Explain question) =
-      (command ≡ codes "explain") × (value (codes "command") ≡ None) × IsQuestion value question
-  IsTaskOf command (task.ExplainCommand question) = (command ≡ codes "explain") × IsCommandQuestion value question
-  IsTaskOf command (task.Run run) = (command ≡ codes "run") × IsRun value run
-  IsTaskOf command (task.Import import) = (command ≡ codes "import") × IsImport value import
-  IsTaskOf command (task.Export path) = (command ≡ codes "export") × (path.now ≡ given value (codes "db"))
-  IsTaskOf command (task.Serve serve) = (command ≡ codes "serve") × IsService value serve
-  IsTaskOf command (task.Who enquiry) = (command ≡ codes "who") × IsEnquiry value enquiry
-  IsTaskOf command (task.Check check) = (command ≡ codes "check") × IsPolicyCheck value check
-  IsTaskOf command (task.Account account) = (command ≡ codes "account") × IsAccount value account
+  IsTaskOf command (task.Ask source (question.Ask ask)) = IsAsk value command source ask
+  IsTaskOf command (task.Ask source (question.Check check)) =
+      (command ≡ codes "check") × IsPolicyCheck value source check
+  IsTaskOf command (task.Account path asked) =
+      (command ≡ codes "account") × (path.now ≡ given value (codes "db")) × IsAccount value asked
+  IsTaskOf command (task.Work path (work.Run policy lines)) =
+      (command ≡ codes "run") × (value (codes "db") ≡ Some path.now) × IsRun value policy lines
+  IsTaskOf command (task.Work path (work.Import import)) =
+      (command ≡ codes "import") × (path.now ≡ given value (codes "db")) × IsImport value import
+  IsTaskOf command (task.Work path work.Export) =
+      (command ≡ codes "export") × (path.now ≡ given value (codes "db"))
+  IsTaskOf command (task.Work path (work.Serve serve)) =
+      (command ≡ codes "serve") × (path.now ≡ given value (codes "db")) × IsService value serve
+  IsTaskOf command (task.InMemory policy lines) =
+      (command ≡ codes "run") × (value (codes "db") ≡ None) × IsRun value policy lines
   IsTaskOf command task.Digest = command ≡ codes "digest"
+  IsTaskOf command task.Commands = command ≡ codes "commands"
 
--- The words are those of a command, with the values of its options in these rows and no mistake in them, and ask for
--- this task.
+-- The arguments are those of a command, with the values of its options in these rows and no mistake in them, and ask
+-- for this task.
 abbrev pub AsksFor : Option (List ℕ × List Row) → Task → Type 0
 AsksFor found task = (command : List ℕ) × (rows : List Row) × (found ≡ Some (command, rows))
     × (first_mistake (options_of (λ name. first_of name rows) command) ≡ None)
     × IsTaskOf (λ name. first_of name rows) command task
 
--- They are those of a command, and this is the first mistake in its options.
+-- The arguments are those of a command, and this is the first mistake in its options.
 abbrev pub FailsAt : Option (List ℕ × List Row) → (command : List ℕ) → Mistake → Type 0
 FailsAt found command mistake = (rows : List Row) × (found ≡ Some (command, rows))
     × (first_mistake (options_of (λ name. first_of name rows) command) ≡ Some mistake)

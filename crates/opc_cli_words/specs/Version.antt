@@ -1,4 +1,4 @@
--- What the program says of itself.
+-- The version of the program.
 use Rattle.std.specs.Prelude.{ℕ, List, codes}
 
 -- the version of the program, and that it is proved, with which kit

@@ -1,52 +1,41 @@
-//! The words of `opcmds account`.
-ghost use Rattle.std.specs.Prelude.{◌≡◌, ◌-◌, MatchOption, Some, codes, false, is_some, length, take, true, ⊤};
-ghost use Rattle.std.specs.List.{list_all};
+//! The arguments of `opcmds account`.
+ghost use Rattle.std.specs.Prelude.{◌≡◌, Some, codes, is_some, ⊤};
 ghost use Rattle.std.specs.Option.{option_copied, option_map_or};
 ghost use Rattle.clap.specs.Matches.{first_value, found_of};
+ghost use Rattle.opc_account.specs.Codes.{are_known};
 ghost use Rattle.opc_cli_words.specs.Accounts.{
-  AreCodes,
-  IsAccount,
-  IsFilter,
   IsFirst,
-  IsMoment,
+  IsTime,
+  IsTimedFilter,
   account_checks,
   filter_checks,
   first_checks,
-  has_star,
-  is_code_byte,
-  is_codes,
   is_console,
-  is_stem,
   is_user,
-  moment_of,
   option_check,
   rows_of,
+  time_check,
 };
 ghost use Rattle.opc_cli_words.specs.Checks.{AreReadAs, IsReadAs};
+ghost use Rattle.opc_cli_words.specs.Tasks.{IsTaskOf};
 
 use crate::flag::is_set;
 use crate::mistake::{Mistake, Opt};
+use crate::moment::{DaySecond, row_time_of};
 use crate::number::number_between;
+use crate::source::database_in;
 use clap::ArgMatches;
-use opc_account::filter::{Codes, Filter};
+use opc_account::asked::{AskedQuery, RowTime};
+use opc_account::codes::are_known;
+use opc_account::filter::Filter;
 use opc_account::query::{First, Query};
+use opc_cli_tasks::task::Task;
 use opc_names::name::{ConsoleName, UserId};
-use opc_times::reading::moment_in;
 
 /// As many rows as an account can have.
 const ALL_ROWS: u64 = 9_223_372_036_854_775_807;
 
-/// The last moment there is.
-const LAST_MOMENT: u64 = 9_999_999_999_999;
-
-/// What is asked: which rows of the account in a database file are shown, and how.
-#[derive(Clone, Copy)]
-pub struct Account<'a> {
-    pub path: &'a str,
-    pub query: Query<'a>,
-}
-
-/// The number of a row, or how many rows.
+/// The number of a row, or a number of rows.
 fn rows_of(text: &str) -> Option<u64>
     ensures { result ≡ rows_of text.now }
 {
@@ -67,7 +56,7 @@ fn rows_in(given: Option<&str>, usual: u64, option: Opt) -> Result<u64, Mistake>
     }
 }
 
-/// Where the rows begin that are looked at.
+/// The first row that is looked at.
 fn first_in(from: Option<&str>, last: Option<&str>) -> Result<First, Mistake>
     ensures { AreReadAs (IsFirst (option_copied from.entry) (option_copied last.entry))
         (first_checks (option_copied from.entry) (option_copied last.entry)) result }
@@ -79,26 +68,20 @@ fn first_in(from: Option<&str>, last: Option<&str>) -> Result<First, Mistake>
     }
 }
 
-/// A moment: `@` and its seconds since 1970, or its time.
-fn moment_of(text: &str) -> Option<u64>
-    ensures { result ≡ moment_of text.now }
-{
-    match text.strip_prefix("@") {
-        Some(seconds) => number_between(seconds, 0, LAST_MOMENT),
-        None => moment_in(text),
-    }
-}
-
-/// A moment, if one is given.
-fn moment_given(given: Option<&str>, option: Opt) -> Result<Option<u64>, Mistake>
-    ensures { IsReadAs (IsMoment (option_copied given.entry))
-        (option_check option (λ text. is_some (moment_of text)) (option_copied given.entry)) result }
+/// A time, if one is given.
+fn time_given(
+    given: Option<&str>,
+    option: Opt,
+    second: DaySecond,
+) -> Result<Option<RowTime>, Mistake>
+    ensures { IsReadAs (IsTime second (option_copied given.entry))
+        (time_check option second (option_copied given.entry)) result }
 {
     let Some(text) = given else {
         return Ok(None);
     };
-    match moment_of(text) {
-        Some(moment) => Ok(Some(moment)),
+    match row_time_of(second, text) {
+        Some(time) => Ok(Some(time)),
         None => Err(Mistake::Unread(option)),
     }
 }
@@ -121,6 +104,7 @@ fn user_given(given: Option<&str>) -> Result<(), Mistake>
 {
     match given {
         Some(text) if !is_user(text) => Err(Mistake::Unread(Opt::User)),
+        // None is given, or it is valid.
         _ => Ok(()),
     }
 }
@@ -131,106 +115,76 @@ fn console_given(given: Option<&str>) -> Result<(), Mistake>
 {
     match given {
         Some(text) if !is_console(text) => Err(Mistake::Unread(Opt::Console)),
+        // None is given, or it is valid.
         _ => Ok(()),
     }
 }
 
-fn are_code_bytes(bytes: &[u8]) -> bool
-    ensures { result ≡ list_all is_code_byte bytes.now }
+/// The requested codes, if some are given.
+fn codes_given(given: Option<&str>) -> Result<(), Mistake>
+    ensures { IsReadAs (λ _. ⊤) (option_check Opt.Code are_known (option_copied given.entry)) result }
 {
-    bytes
-        .iter()
-        .all(|c| c.is_ascii_uppercase() || c.is_ascii_digit())
-}
-
-fn is_stem(stem: &str) -> bool
-    ensures { result ≡ is_stem stem.now }
-{
-    !stem.is_empty() && are_code_bytes(stem.as_bytes())
-}
-
-/// What is before a `*` at the end, if one is there.
-fn before_star(text: &str) -> Option<&str>
-    ensures { MatchOption result (has_star text.now ≡ false) (λ start. (has_star text.now ≡ true) × (start.now ≡ take
-        (length text.now - 1) text.now)) }
-{
-    text.strip_suffix("*")
-}
-
-/// A code, or with a `*` at its end those that begin with what is before it.
-fn codes_of(text: &str) -> Option<Codes<'_>>
-    ensures { MatchOption result (is_codes text.now ≡ false)
-        (λ codes. (is_codes text.now ≡ true) × AreCodes (Some text.now) (Some codes)) }
-{
-    match before_star(text) {
-        Some(start) => {
-            if is_stem(start) {
-                Some(Codes::Beginning(start))
-            } else {
-                None
-            }
-        }
-        None => {
-            if is_stem(text) {
-                Some(Codes::One(text))
-            } else {
-                None
-            }
-        }
+    match given {
+        Some(text) if !are_known(text) => Err(Mistake::Unread(Opt::Code)),
+        // No codes are given, or all of them exist.
+        _ => Ok(()),
     }
 }
 
-/// The codes that are asked for, if some are given.
-fn codes_given<'a>(given: Option<&'a str>) -> Result<Option<Codes<'a>>, Mistake>
-    ensures { IsReadAs (AreCodes (option_copied given.entry))
-        (option_check Opt.Code is_codes (option_copied given.entry)) result }
-{
-    let Some(text) = given else {
-        return Ok(None);
-    };
-    match codes_of(text) {
-        Some(codes) => Ok(Some(codes)),
-        None => Err(Mistake::Unread(Opt::Code)),
-    }
+/// What rows must meet: times as they are given, and a filter without times.
+struct TimedFilter<'a> {
+    since: Option<RowTime>,
+    until: Option<RowTime>,
+    filter: Filter<'a>,
 }
 
-/// What a row has to be.
-fn filter_in<'a>(chosen: &ArgMatches<'a>) -> Result<Filter<'a>, Mistake>
-    ensures { AreReadAs (IsFilter (first_value (found_of chosen.now)))
+fn filter_in<'a>(chosen: &ArgMatches<'a>) -> Result<TimedFilter<'a>, Mistake>
+    ensures { AreReadAs (IsTimedFilter (first_value (found_of chosen.now)))
         (filter_checks (first_value (found_of chosen.now))) result }
 {
-    let since = moment_given(chosen.get_str("since"), Opt::Since)?;
-    let until = moment_given(chosen.get_str("until"), Opt::Until)?;
+    let since = time_given(chosen.get_str("since"), Opt::Since, DaySecond::First)?;
+    let until = time_given(chosen.get_str("until"), Opt::Until, DaySecond::Last)?;
     let (user, console) = (chosen.get_str("user"), chosen.get_str("console"));
     user_given(user)?;
     console_given(console)?;
-    let codes = codes_given(chosen.get_str("code"))?;
-    Ok(Filter {
-        since,
-        until,
+    let codes = chosen.get_str("code");
+    codes_given(codes)?;
+    let filter = Filter {
+        since: None,
+        until: None,
         user,
         console,
         codes,
+    };
+    Ok(TimedFilter {
+        since,
+        until,
+        filter,
     })
 }
 
-impl<'a> Account<'a> {
-    /// What these words ask, or the first mistake in their options.
-    pub fn read(chosen: &ArgMatches<'a>) -> Result<Self, Mistake>
-        ensures { AreReadAs (IsAccount (first_value (found_of chosen.now)))
-            (account_checks (first_value (found_of chosen.now))) result }
-    {
-        let first = first_in(chosen.get_str("from"), chosen.get_str("last"))?;
-        let count = rows_in(chosen.get_str("count"), ALL_ROWS, Opt::Count)?;
-        let filter = filter_in(chosen)?;
-        Ok(Account {
-            path: chosen.get_str("db").unwrap_or(""),
-            query: Query {
-                first,
-                count,
-                filter,
-                json: is_set(chosen, "json"),
-            },
-        })
-    }
+/// What these arguments ask for, or the first mistake in their options.
+pub(crate) fn account<'a>(chosen: &ArgMatches<'a>) -> Result<Task<'a>, Mistake>
+    ensures { AreReadAs (IsTaskOf (first_value (found_of chosen.now)) (codes "account"))
+        (account_checks (first_value (found_of chosen.now))) result }
+{
+    let first = first_in(chosen.get_str("from"), chosen.get_str("last"))?;
+    let count = rows_in(chosen.get_str("count"), ALL_ROWS, Opt::Count)?;
+    let TimedFilter {
+        since,
+        until,
+        filter,
+    } = filter_in(chosen)?;
+    let query = Query {
+        first,
+        count,
+        filter,
+        json: is_set(chosen, "json"),
+    };
+    let asked = AskedQuery {
+        since,
+        until,
+        query,
+    };
+    Ok(Task::Account(database_in(chosen), asked))
 }

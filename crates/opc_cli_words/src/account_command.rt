@@ -16,15 +16,17 @@ fn account_alone<'a>(alloc: Global) -> Command<'a>
         "Shows the account of a database file: the audit log",
         "opcmds account --db FILE [OPTIONS]",
         "It has each refusal, and each command that only a warning let pass. Neither\n\
-         the file nor its log is made or changed. A moment T is a time with its offset\n\
-         from UTC, as 2026-11-27T08:00:00Z, or @ and its seconds since 1970.\n\
+         the file nor its log is made or changed. T is a time with its offset from UTC,\n\
+         as 2026-11-27T08:00:00Z, a day in UTC, as 2026-11-27, @ and its seconds since\n\
+         1970, or how long ago, in s, m, h or d: -8h is eight hours ago.\n\
          \n\
-         Example: opcmds account --db gate.db --last 1000 --user ANNA --code 'E2*'\n\
-         Status: 0 done, 2 bad words, 3 out of memory or a failed device",
+         Examples: opcmds account --db gate.db --last 1000 --user ANNA --code 'E2*'\n\
+         \x20         opcmds account --db gate.db --since -8h\n\
+         Status: 0 done, 2 invalid arguments, 3 out of memory or a failed device",
     )
 }
 
-/// With the options that say which rows are looked at, and how many are shown.
+/// With the options that state which rows are looked at, and how many are shown.
 fn with_rows<'a>(alloc: Global) -> Result<Command<'a>, AllocError>
     ensures { IfOk result (λ built. IsCommand built (codes "account") row_options) }
 {
@@ -57,8 +59,20 @@ pub(crate) fn account_command<'a>(alloc: Global) -> Result<Command<'a>, AllocErr
     ensures { IfOk result (λ built. IsCommand built (codes "account") account_options) }
 {
     with_rows(alloc)?
-        .arg(value(alloc, "since", "T", "Rows of this moment or a later one"))?
-        .arg(value(alloc, "until", "T", "Rows of this moment or an earlier one"))?
+        .arg(value(
+            alloc,
+            "since",
+            "T",
+            "Rows of this time or later; of a day from its\n\
+             begin",
+        ))?
+        .arg(value(
+            alloc,
+            "until",
+            "T",
+            "Rows of this time or earlier; of a day to its\n\
+             end",
+        ))?
         .arg(value(alloc, "user", "USER", "Rows of this user; - is nobody"))?
         .arg(value(
             alloc,
@@ -70,8 +84,8 @@ pub(crate) fn account_command<'a>(alloc: Global) -> Result<Command<'a>, AllocErr
             alloc,
             "code",
             "CODE",
-            "Rows of this code, as E20; with a * at its end\n\
-             of all that begin so, as E2*",
+            "Rows of these codes, as E20,E21; with a * at its\n\
+             end a code is all that begin so, as E2*",
         ))?
         .arg(flag(
             alloc,

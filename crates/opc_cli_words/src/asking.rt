@@ -1,5 +1,5 @@
-//! What `opcmds explain` and `opcmds who` are asked about: a command, or a level of access.
-ghost use Rattle.std.specs.Prelude.{◌≡◌, Some, is_some, true};
+//! The subject of `opcmds explain` and `opcmds who`: a command, or a level of access.
+ghost use Rattle.std.specs.Prelude.{◌≡◌, ⊤, Some, is_some, true};
 ghost use Rattle.std.specs.Option.{option_copied};
 ghost use Rattle.opc_cli_words.specs.Checks.{AreReadAs, IsReadAs};
 ghost use Rattle.opc_cli_words.specs.Enquiries.{
@@ -8,11 +8,13 @@ ghost use Rattle.opc_cli_words.specs.Enquiries.{
   kind_check,
   kind_given,
   kind_of,
+  logon_check,
   task_of,
 };
 
 use crate::mistake::{Mistake, Opt};
-use opc_names::name::UnitName;
+use opc_answers::needed::is_logon;
+use opc_names::name::{ConsoleName, UnitName};
 use opc_terms::unit_kind::UnitKindAt;
 
 /// A started task, written `STC:` and its member.
@@ -32,11 +34,12 @@ fn kind_of(text: &str) -> Option<UnitKindAt>
     match text {
         "JOB" => Some(UnitKindAt::Job),
         "TSU" => Some(UnitKindAt::Tsu),
+        // A started task has its member after it, so it is no fixed word.
         _ => task_of(text),
     }
 }
 
-/// What the unit is that the command names.
+/// The kind of the unit that the command names.
 fn kind_in(given: Option<&str>) -> Result<UnitKindAt, Mistake>
     ensures { IsReadAs (λ kind. kind_given (option_copied given.entry) ≡ Some kind)
         (kind_check (option_copied given.entry)) result }
@@ -50,7 +53,7 @@ fn kind_in(given: Option<&str>) -> Result<UnitKindAt, Mistake>
     }
 }
 
-/// What the unit is that a command names, which is given without a resource and a level.
+/// The kind of the unit that a command names, if the command is given without a resource and a level.
 pub(crate) fn kind_beside(
     kind: Option<&str>,
     resource: Option<&str>,
@@ -62,7 +65,7 @@ pub(crate) fn kind_beside(
     if resource.is_some() {
         return Err(Mistake::NotOneQuestion);
     }
-    // A command says itself which level it needs.
+    // A command itself determines the level that it needs.
     if level.is_some() {
         return Err(Mistake::Lacks(Opt::Level, Opt::Resource));
     }
@@ -89,4 +92,18 @@ pub(crate) fn need_access(
         return Err(Mistake::Lacks(Opt::Resource, Opt::Level));
     }
     Ok(())
+}
+
+/// A question about a LOGON needs a console.
+pub(crate) fn place_logon(
+    command: Option<&str>,
+    console: &Option<ConsoleName>,
+) -> Result<(), Mistake>
+    ensures { IsReadAs (λ _. ⊤) (logon_check (option_copied command.entry) console.now) result }
+{
+    match (command, console) {
+        (Some(text), None) if is_logon(text) => Err(Mistake::LogonNowhere),
+        // The command is no LOGON, or a console is given.
+        _ => Ok(()),
+    }
 }

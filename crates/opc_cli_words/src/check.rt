@@ -1,49 +1,44 @@
-//! The words of `opcmds check`.
-ghost use Rattle.std.specs.Prelude.{◌≡◌};
+//! The arguments of `opcmds check`.
+ghost use Rattle.std.specs.Prelude.{◌≡◌, codes};
+ghost use Rattle.std.specs.List.{list_any};
 ghost use Rattle.std.specs.Option.{option_copied};
+ghost use Rattle.std.specs.Str.{bytes_eq};
 ghost use Rattle.clap.specs.Matches.{first_value, found_of};
 ghost use Rattle.opc_cli_words.specs.Checks.{AreReadAs, IsReadAs};
-ghost use Rattle.opc_cli_words.specs.Codes.{allow_check, are_codes, is_code, is_digit};
-ghost use Rattle.opc_cli_words.specs.Options.{IsPolicyCheck, policy_checks};
+ghost use Rattle.opc_cli_words.specs.Codes.{allow_check, are_note_codes, is_note_code};
+ghost use Rattle.opc_cli_words.specs.Options.{policy_checks};
+ghost use Rattle.opc_cli_words.specs.Tasks.{IsTaskOf};
 
-use crate::flag::is_set;
+use crate::flag::form_in;
 use crate::mistake::{Mistake, Opt};
-use crate::source::{Source, source_in};
+use crate::source::source_in;
 use clap::ArgMatches;
+use opc_cli_tasks::question::{PolicyCheck, PolicyQuestion};
+use opc_cli_tasks::task::Task;
 
-/// Which policy is checked; which notes are allowed, by their codes with commas between them; and whether the lines are
-/// objects of JSON.
-#[derive(Clone, Copy)]
-pub struct PolicyCheck<'a> {
-    pub source: Source<'a>,
-    pub allowed: Option<&'a str>,
-    pub json: bool,
+/// The codes of notes.
+const NOTES: [&str; 18] = [
+    "N01", "N02", "N03", "N04", "N05", "N06", "N08", "N09", "N10", "N11", "N12", "N13", "N14",
+    "N15", "N16", "N17", "N18", "N19",
+];
+
+fn is_among(codes: &[&str], text: &str) -> bool
+    ensures { result ≡ list_any (λ code. bytes_eq text.now code.now) codes.now }
+{
+    codes.iter().any(|code| text == *code)
 }
 
-fn is_digit(c: u8) -> bool
-    ensures { result ≡ is_digit c }
+fn is_note_code(text: &str) -> bool
+    ensures { result ≡ is_note_code text.now }
 {
-    c.is_ascii_digit()
+    is_among(&NOTES, text)
 }
 
-/// Whether these characters are `N` and two digits.
-fn is_code(n: u8, tens: u8, ones: u8) -> bool
-    ensures { result ≡ is_code n tens ones }
+/// Whether a text is codes of notes with commas between them.
+fn are_note_codes(text: &str) -> bool
+    ensures { result ≡ are_note_codes text.now }
 {
-    n == b'N' && is_digit(tens) && is_digit(ones)
-}
-
-/// Whether a text is codes with commas between them.
-fn are_codes(text: &[u8]) -> bool
-    ensures { result ≡ are_codes text.now }
-{
-    match text {
-        [n, tens, ones] => is_code(*n, *tens, *ones),
-        [n, tens, ones, comma, rest @ ..] => {
-            is_code(*n, *tens, *ones) && *comma == b',' && are_codes(rest)
-        }
-        _ => false,
-    }
+    text.split(',').all(is_note_code)
 }
 
 fn allowed_in<'a>(given: Option<&'a str>) -> Result<Option<&'a str>, Mistake>
@@ -52,7 +47,7 @@ fn allowed_in<'a>(given: Option<&'a str>) -> Result<Option<&'a str>, Mistake>
 {
     match given {
         Some(text) => {
-            if are_codes(text.as_bytes()) {
+            if are_note_codes(text) {
                 Ok(Some(text))
             } else {
                 Err(Mistake::Unread(Opt::Allow))
@@ -62,18 +57,14 @@ fn allowed_in<'a>(given: Option<&'a str>) -> Result<Option<&'a str>, Mistake>
     }
 }
 
-impl<'a> PolicyCheck<'a> {
-    /// What these words ask for, or the first mistake in their options.
-    pub fn read(chosen: &ArgMatches<'a>) -> Result<Self, Mistake>
-        ensures { AreReadAs (IsPolicyCheck (first_value (found_of chosen.now)))
-            (policy_checks (first_value (found_of chosen.now))) result }
-    {
-        let allowed = allowed_in(chosen.get_str("allow"))?;
-        let source = source_in(chosen)?;
-        Ok(PolicyCheck {
-            source,
-            allowed,
-            json: is_set(chosen, "json"),
-        })
-    }
+/// What these arguments ask for, or the first mistake in their options.
+pub(crate) fn check<'a>(chosen: &ArgMatches<'a>) -> Result<Task<'a>, Mistake>
+    ensures { AreReadAs (IsTaskOf (first_value (found_of chosen.now)) (codes "check"))
+        (policy_checks (first_value (found_of chosen.now))) result }
+{
+    let allowed = allowed_in(chosen.get_str("allow"))?;
+    let source = source_in(chosen)?;
+    let form = form_in(chosen);
+    let check = PolicyCheck { allowed, form };
+    Ok(Task::Ask(source, PolicyQuestion::Check(check)))
 }

@@ -2,7 +2,7 @@
 ghost use Rattle.std.specs.Prelude.{IfOk, codes};
 ghost use Rattle.opc_cli_words.specs.CommandLine.{IsCommand, check_options};
 
-use crate::command_line::{DATABASE_FILE, POLICY_FILE, command, flag, value};
+use crate::command_line::{DATABASE_FILE, POLICY_FILE, command, flag, positional, value};
 use clap::Command;
 use std::alloc::{AllocError, Global};
 
@@ -13,16 +13,17 @@ pub(crate) fn check_command<'a>(alloc: Global) -> Result<Command<'a>, AllocError
         alloc,
         "check",
         "Says what is wrong with a policy",
-        "opcmds check [OPTIONS] [< POLICY]",
-        "Shows each row that does not read; or else each that loading the policy would\n\
-         refuse; or else notes on what may be a mistake.\n\
+        "opcmds check [OPTIONS] [FILE]",
+        "Shows each invalid row; or else each that loading the policy would refuse;\n\
+         or else notes on what may be a mistake.\n\
          \n\
-         Example: opcmds check < policy.csv\n\
-         Status: 0 nothing is wrong, 1 notes, 2 bad words or rows,\n\
+         Example: opcmds check policy.csv\n\
+         Status: 0 nothing is wrong, 1 notes, 2 invalid arguments or rows,\n\
          \x20       3 out of memory or a failed device",
     )
     .arg(value(alloc, "policy", "FILE", POLICY_FILE))?
     .arg(value(alloc, "db", "FILE", DATABASE_FILE))?
+    .arg(positional(alloc, "file", "FILE", POLICY_FILE))?
     .arg(value(
         alloc,
         "allow",

@@ -10,6 +10,7 @@ ghost use Rattle.opc_cli_words.specs.CommandLine.{
   flag,
   import_options,
   needed,
+  positional,
   preset,
   program,
   run_options,
@@ -24,15 +25,18 @@ use crate::version::VERSION;
 use clap::{Arg, ArgAction, Command};
 use std::alloc::{AllocError, Global};
 
-/// What the help says of `--policy` where a policy is asked.
+/// The help of a policy file by itself, and of `--policy` for questions about a policy.
 pub(crate) const POLICY_FILE: &str = "The policy file, in place of standard input";
 
-/// What the help says of `--db` there.
+/// The help of `--db` there.
 pub(crate) const DATABASE_FILE: &str = "The database file that is asked, in place of a\n\
      policy file; neither it nor its log is changed";
 
-/// What the help says of `--db` where the file is opened.
+/// The help of `--db` if the file is opened.
 const MADE_DATABASE: &str = "The database file, made if it is not there";
+
+/// The help of a script by itself.
+const SCRIPT_FILE: &str = "The script, in place of standard input";
 
 /// What `opcmds` and its help print: the commands by what they are for. No line of it, or of any other help, is longer
 /// than 78 columns.
@@ -51,19 +55,27 @@ Keep a policy     import    load a policy file, or a batch of rows
                   export    write the policy as a file
                   digest    make the digest of a password
 
+opcmds commands lists what an operator may type, and what each command needs.
 opcmds COMMAND --help has options, examples and statuses; man opcmds has all.
 ";
+
+/// A positional argument.
+pub(crate) fn positional<'a>(alloc: Global, name: &'a str, shown: &'a str, help: &'a str) -> Arg<'a>
+    ensures rule { rule_of result ≡ positional name.entry.now }
+    ensures alone { result.global ≡ false }
+{
+    Arg::new(alloc, name)
+        .action(ArgAction::Set)
+        .value_name(shown)
+        .help(help)
+}
 
 /// An option that takes a value.
 pub(crate) fn value<'a>(alloc: Global, name: &'a str, shown: &'a str, help: &'a str) -> Arg<'a>
     ensures rule { rule_of result ≡ valued name.entry.now }
     ensures alone { result.global ≡ false }
 {
-    Arg::new(alloc, name)
-        .long(name)
-        .action(ArgAction::Set)
-        .value_name(shown)
-        .help(help)
+    positional(alloc, name, shown, help).long(name)
 }
 
 /// An option that is required.
@@ -115,49 +127,57 @@ pub(crate) fn command<'a>(
         .after_help(after)
 }
 
-fn run_command<'a>(alloc: Global) -> Result<Command<'a>, AllocError>
-    ensures { IfOk result (λ built. IsCommand built (codes "run") run_options) }
+/// The command `run` before its options.
+fn run_alone<'a>(alloc: Global) -> Command<'a>
+    ensures { IsCommand result (codes "run") [] }
 {
     command(
         alloc,
         "run",
         "Answers the commands and events of a script, or of a terminal (--now)",
-        "opcmds run [OPTIONS] [< SCRIPT]",
-        "A line: MOMENT CONSOLE COMMAND, or MOMENT * EVENT. The moment has 1 to 13\n\
+        "opcmds run [OPTIONS] [FILE]",
+        "A line: TIME CONSOLE COMMAND, or TIME * EVENT. The time has 1 to 13\n\
          digits; with --now there is none. A script has at most 1,048,576 bytes.\n\
          \n\
          Examples: echo '1 C1 S MONPL' | opcmds run --policy policy.csv\n\
          \x20         opcmds run --now --console C1 --db gate.db\n\
-         Status: 0 all done, 1 something refused, 2 bad words, policy file or line,\n\
-         \x20       3 out of memory or a failed device",
+         Status: 0 all done, 1 something refused, 2 invalid arguments, policy file or\n\
+         \x20       line, 3 out of memory or a failed device",
     )
-    .arg(value(
-        alloc,
-        "db",
-        "FILE",
-        "The database file, made if it is not there;\n\
-         in memory without this",
-    ))?
-    .arg(value(
-        alloc,
-        "policy",
-        "FILE",
-        "The first policy, for tables in which no user\n\
-         is stored",
-    ))?
-    .arg(flag(
-        alloc,
-        "now",
-        "Answers each line by the clock, before the next\n\
-         is read",
-    ))?
-    .arg(value(
-        alloc,
-        "console",
-        "CONSOLE",
-        "With --now: each line is a command, typed at\n\
-         this console",
-    ))
+}
+
+fn run_command<'a>(alloc: Global) -> Result<Command<'a>, AllocError>
+    ensures { IfOk result (λ built. IsCommand built (codes "run") run_options) }
+{
+    run_alone(alloc)
+        .arg(value(
+            alloc,
+            "db",
+            "FILE",
+            "The database file, made if it is not there;\n\
+             in memory without this",
+        ))?
+        .arg(value(
+            alloc,
+            "policy",
+            "FILE",
+            "The first policy, for tables in which no user\n\
+             is stored",
+        ))?
+        .arg(flag(
+            alloc,
+            "now",
+            "Answers each line by the clock, before the next\n\
+             is read",
+        ))?
+        .arg(value(
+            alloc,
+            "console",
+            "CONSOLE",
+            "With --now: each line is a command, typed at\n\
+             this console",
+        ))?
+        .arg(positional(alloc, "file", "FILE", SCRIPT_FILE))
 }
 
 fn import_command<'a>(alloc: Global) -> Result<Command<'a>, AllocError>
@@ -167,13 +187,13 @@ fn import_command<'a>(alloc: Global) -> Result<Command<'a>, AllocError>
         alloc,
         "import",
         "Loads a policy file into a database file, all its rows or none",
-        "opcmds import --db FILE --batch NUMBER [--console CONSOLE] < POLICY",
+        "opcmds import --db FILE --batch NUMBER [--console CONSOLE] [FILE]",
         "A batch that is kept with equal rows changes nothing, however often it is\n\
          sent. A policy file has at most 16,777,216 bytes.\n\
          \n\
-         Examples: opcmds import --db gate.db --batch 1 < policy.csv\n\
-         \x20         opcmds import --db gate.db --batch 7 --console C2 < day.csv\n\
-         Status: 0 done, 1 refused, 2 bad words or policy file,\n\
+         Examples: opcmds import --db gate.db --batch 1 policy.csv\n\
+         \x20         opcmds import --db gate.db --batch 7 --console C2 day.csv\n\
+         Status: 0 done, 1 refused, 2 invalid arguments or policy file,\n\
          \x20       3 out of memory or a failed device",
     )
     .arg(needed(alloc, "db", "FILE", MADE_DATABASE))?
@@ -187,10 +207,11 @@ fn import_command<'a>(alloc: Global) -> Result<Command<'a>, AllocError>
         alloc,
         "console",
         "CONSOLE",
-        "The console that asks, for whoever is on there;\n\
+        "The console to import at, as the user on there;\n\
          without it this is the first policy, and no\n\
          batch is kept",
-    ))
+    ))?
+    .arg(positional(alloc, "file", "FILE", POLICY_FILE))
 }
 
 fn export_command<'a>(alloc: Global) -> Result<Command<'a>, AllocError>
@@ -202,9 +223,9 @@ fn export_command<'a>(alloc: Global) -> Result<Command<'a>, AllocError>
         "Writes the policy and the consoles of a database file as a policy file",
         "opcmds export --db FILE > POLICY",
         "Example: opcmds export --db gate.db > policy.csv\n\
-         Status: 0 done, 2 bad words, 3 out of memory or a failed device",
+         Status: 0 done, 2 invalid arguments, 3 out of memory or a failed device",
     )
-    .arg(needed(alloc, "db", "FILE", MADE_DATABASE))
+    .arg(needed(alloc, "db", "FILE", "The database file"))
 }
 
 /// `serve` with the options that state where it listens, and what is refused there.
@@ -256,7 +277,7 @@ fn serve_command<'a>(alloc: Global) -> Result<Command<'a>, AllocError>
          Example: opcmds serve --db gate.db --port 8011 --count 1 &\n\
          \x20        curl -s --retry 5 --retry-connrefused -d '{\"text\":\"D U\"}' \\\n\
          \x20            http://127.0.0.1:8011/consoles/C1/command\n\
-         Status: 0 all connections were served, 2 bad words,\n\
+         Status: 0 all connections were served, 2 invalid arguments,\n\
          \x20       3 out of memory or a failed device",
     )
     .arg(needed(alloc, "db", "FILE", MADE_DATABASE))?;
@@ -296,7 +317,26 @@ fn digest_command<'a>(alloc: Global) -> Command<'a>
          and @. It is read in capitals, as at LOGON.\n\
          \n\
          Example: printf ABC | opcmds digest\n\
-         Status: 0 done, 2 bad words or no password, 3 out of memory or a failed device",
+         Status: 0 done, 2 invalid arguments or no password,\n\
+         \x20       3 out of memory or a failed device",
+    )
+}
+
+fn commands_command<'a>(alloc: Global) -> Command<'a>
+    ensures { IsCommand result (codes "commands") [] }
+{
+    command(
+        alloc,
+        "commands",
+        "Lists what an operator may type, and what each command needs",
+        "opcmds commands",
+        "A command needs the level on the resource, of class OPERCMDS. If no profile\n\
+         decides, the authority of the console does, by the group. C, FORCE, P and F\n\
+         have a row for a job, and more for a started task or a user's session if\n\
+         the resource is another then.\n\
+         \n\
+         Example: opcmds commands | grep '^V '\n\
+         Status: 0 done, 2 invalid arguments, 3 out of memory or a failed device",
     )
 }
 
@@ -327,5 +367,6 @@ pub(crate) fn command_line<'a>(alloc: Global) -> Result<Command<'a>, AllocError>
         .subcommand(who_command(alloc)?)?
         .subcommand(check_command(alloc)?)?
         .subcommand(account_command(alloc)?)?
-        .subcommand(digest_command(alloc))
+        .subcommand(digest_command(alloc))?
+        .subcommand(commands_command(alloc))
 }

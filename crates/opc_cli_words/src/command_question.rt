@@ -1,9 +1,8 @@
-//! The words of `opcmds explain` about a command.
+//! The arguments of `opcmds explain` about a command.
 ghost use Rattle.std.specs.Prelude.{◌≡◌, ◌∷◌, [], Some, codes, is_some};
 ghost use Rattle.clap.specs.Matches.{first_value, found_of};
 ghost use Rattle.opc_cli_words.specs.Checks.{AreReadAs, IsReadAs};
 ghost use Rattle.opc_cli_words.specs.Options.{
-  IsCommandQuestion,
   actor_of,
   actor_option,
   console_option,
@@ -11,35 +10,28 @@ ghost use Rattle.opc_cli_words.specs.Options.{
   nobody_option,
   question_checks,
 };
+ghost use Rattle.opc_cli_words.specs.Tasks.{IsTaskOf};
 
-use crate::asking::kind_beside;
-use crate::flag::is_set;
+use crate::asking::{kind_beside, place_logon};
+use crate::flag::form_in;
 use crate::mistake::{Mistake, Opt};
-use crate::question::console_in;
-use crate::source::{Source, source_in};
+use crate::question::{console_in, why_asked};
+use crate::quotes::need_quotes;
+use crate::source::source_in;
 use clap::ArgMatches;
+use opc_answers::needed::is_logon;
+use opc_answers::question::{About, Question};
+use opc_cli_tasks::question::{Ask, PolicyQuestion};
+use opc_cli_tasks::task::Task;
 use opc_names::name::{ConsoleName, UserId};
-use opc_terms::unit_kind::UnitKindAt;
 
-/// What is asked: whether a user, or nobody, may enter a command, with the kind of the unit that it names, whether with
-/// the level held behind each pattern, whether the answer is JSON, and by which policy.
-#[derive(Clone, Copy)]
-pub struct CommandQuestion<'a> {
-    pub user: Option<UserId>,
-    pub text: &'a str,
-    pub kind: UnitKindAt,
-    pub console: Option<ConsoleName>,
-    pub why: bool,
-    pub json: bool,
-    pub source: Source<'a>,
-}
-
-/// The user, or nobody, written `-`.
-fn actor_in(chosen: &ArgMatches<'_>) -> Result<Option<UserId>, Mistake>
+/// The user who enters the command, or nobody, written `-`. Nobody logs on for nobody.
+fn actor_in(chosen: &ArgMatches<'_>, command: &str) -> Result<Option<UserId>, Mistake>
     ensures { IsReadAs (λ user. user ≡ actor_of (given (first_value (found_of chosen.now)) (codes "user")))
-        (actor_option (first_value (found_of chosen.now))) result }
+        (actor_option (first_value (found_of chosen.now)) command.now) result }
 {
     match chosen.get_str("user").unwrap_or("") {
+        "-" if is_logon(command) => Err(Mistake::Unread(Opt::User)),
         "-" => Ok(None),
         text => match UserId::read(text) {
             Ok(user) => Ok(Some(user)),
@@ -48,7 +40,7 @@ fn actor_in(chosen: &ArgMatches<'_>) -> Result<Option<UserId>, Mistake>
     }
 }
 
-/// The console that is named. Nobody is asked about at one alone.
+/// The console that is named. `-`, for nobody, needs a console.
 fn console_for(chosen: &ArgMatches<'_>, is_somebody: bool) -> Result<Option<ConsoleName>, Mistake>
     requires { is_somebody ≡ is_some (actor_of (given (first_value (found_of chosen.now)) (codes "user"))) }
     ensures { AreReadAs (λ console. console ≡ first_value (found_of chosen.now) (codes "console"))
@@ -62,26 +54,27 @@ fn console_for(chosen: &ArgMatches<'_>, is_somebody: bool) -> Result<Option<Cons
     Ok(console)
 }
 
-impl<'a> CommandQuestion<'a> {
-    /// The question of these words about the command that is given, or the first mistake in their options.
-    pub fn read(chosen: &ArgMatches<'a>, text: &'a str) -> Result<Self, Mistake>
-        requires { first_value (found_of chosen.now) (codes "command") ≡ Some text.now }
-        ensures { AreReadAs (IsCommandQuestion (first_value (found_of chosen.now)))
-            (question_checks (first_value (found_of chosen.now)) (Some text.entry.now)) result }
-    {
-        let user = actor_in(chosen)?;
-        let kind = chosen.get_str("as");
-        let kind = kind_beside(kind, chosen.get_str("resource"), chosen.get_str("level"))?;
-        let console = console_for(chosen, user.is_some())?;
-        let source = source_in(chosen)?;
-        Ok(CommandQuestion {
-            user,
-            text,
-            kind,
-            console,
-            why: is_set(chosen, "why"),
-            json: is_set(chosen, "json"),
-            source,
-        })
-    }
+/// The question of these arguments about the command that is given, or the first mistake in their options.
+pub(crate) fn command_question<'a>(
+    chosen: &ArgMatches<'a>,
+    text: &'a str,
+) -> Result<Task<'a>, Mistake>
+    requires { first_value (found_of chosen.now) (codes "command") ≡ Some text.now }
+    ensures { AreReadAs (IsTaskOf (first_value (found_of chosen.now)) (codes "explain"))
+        (question_checks (first_value (found_of chosen.now)) (Some text.entry.now)) result }
+{
+    let user = actor_in(chosen, text)?;
+    let kind = chosen.get_str("as");
+    let kind = kind_beside(kind, chosen.get_str("resource"), chosen.get_str("level"))?;
+    let console = console_for(chosen, user.is_some())?;
+    need_quotes(chosen)?;
+    let source = source_in(chosen)?;
+    place_logon(Some(text), &console)?;
+    let question = Question {
+        about: About::Command { text, kind },
+        console,
+        asks: why_asked(chosen, user),
+    };
+    let form = form_in(chosen);
+    Ok(Task::Ask(source, PolicyQuestion::Ask(Ask { question, form })))
 }

@@ -1,23 +1,28 @@
-//! The words of the command line: the options of each command, what they ask for, or what is wrong with them.
+//! The arguments of the command line: the options of each command, what they ask for, or what is wrong with them.
 #![tactic(auto)]
 
-pub mod account;
+mod account;
 mod account_command;
 mod asking;
-pub mod check;
+mod check;
 mod check_command;
 mod command_line;
-pub mod command_question;
+mod command_question;
 mod flag;
-pub mod import;
+mod import;
+pub mod joined;
 pub mod mistake;
+pub mod moment;
 mod number;
-pub mod question;
+mod question;
 mod question_commands;
-pub mod run;
-pub mod serve;
-pub mod source;
+mod quotes;
+mod run;
+mod serve;
+mod slip;
+mod source;
+mod span;
 mod value;
 mod version;
-pub mod who;
+mod who;
 pub mod words;

@@ -5,6 +5,9 @@ ghost use Rattle.opc_cli_words.specs.Mistakes.{mistake_line, mistake_text};
 
 use opc_io::sink::{Sink, WriteFault, write_whole};
 
+/// How a command is quoted.
+pub(crate) const ONE_TEXT: &[u8] = b"--command takes one text: --command 'C PAYROLL'";
+
 /// An option of a command.
 #[derive(Clone, Copy)]
 pub enum Opt {
@@ -67,20 +70,26 @@ impl Opt {
 /// What is wrong with the options of a command.
 #[derive(Clone, Copy)]
 pub enum Mistake {
-    /// The value of this option does not read.
+    /// The value of this option is invalid.
     Unread(Opt),
     /// The first option is given without the second, which it needs.
     Lacks(Opt, Opt),
-    /// Nobody is asked about, but acts only at a console, and none is named.
+    /// The question is about nobody, who acts only at a console, and none is named.
     NobodyAlone,
-    /// Neither option says where to listen, or both do.
+    /// The question is about a LOGON, which is typed at a console, and none is named.
+    LogonNowhere,
+    /// Neither option states where to listen, or both do.
     NotOneAddress,
-    /// Neither option says what is asked about, or both do.
+    /// Neither option states what the question is about, or both do.
     NotOneQuestion,
-    /// Two options say where the rows begin.
+    /// Two options state where the rows begin.
     TwoBeginnings,
-    /// Two options say where the policy comes from.
+    /// Lines are answered as they are read, and a file of them is named.
+    TwoInputs,
+    /// Two arguments state where the policy comes from.
     TwoSources,
+    /// A command is not quoted, so that its operand stands in the place of a file.
+    Unquoted,
     /// The command line has no such command.
     NoCommand,
 }
@@ -92,9 +101,8 @@ fn write_mistake<K: Sink>(mistake: Mistake, errors: &mut K) -> Result<(), WriteF
 {
     match mistake {
         Mistake::Unread(option) => {
-            write_whole(errors, b"the value of --")?;
-            write_whole(errors, option.name().as_bytes())?;
-            write_whole(errors, b" does not read")
+            write_whole(errors, b"invalid value for --")?;
+            write_whole(errors, option.name().as_bytes())
         }
         Mistake::Lacks(given, needed) => {
             write_whole(errors, b"--")?;
@@ -103,6 +111,10 @@ fn write_mistake<K: Sink>(mistake: Mistake, errors: &mut K) -> Result<(), WriteF
             write_whole(errors, needed.name().as_bytes())
         }
         Mistake::NobodyAlone => write_whole(errors, b"--user - needs --console"),
+        Mistake::LogonNowhere => write_whole(
+            errors,
+            b"LOGON is asked about at a console: give --console",
+        ),
         Mistake::NotOneAddress => write_whole(
             errors,
             b"serve needs exactly one of --port and --socket",
@@ -112,12 +124,14 @@ fn write_mistake<K: Sink>(mistake: Mistake, errors: &mut K) -> Result<(), WriteF
             b"a question needs exactly one of --command and --resource",
         ),
         Mistake::TwoBeginnings => write_whole(errors, b"account takes --from or --last, not both"),
-        Mistake::TwoSources => write_whole(errors, b"give --policy or --db, not both"),
-        Mistake::NoCommand => write_whole(errors, b"the value of COMMAND does not read"),
+        Mistake::TwoInputs => write_whole(errors, b"run takes --now or FILE, not both"),
+        Mistake::TwoSources => write_whole(errors, b"give one of FILE, --policy and --db"),
+        Mistake::Unquoted => write_whole(errors, ONE_TEXT),
+        Mistake::NoCommand => write_whole(errors, b"invalid value for COMMAND"),
     }
 }
 
-/// Prints a mistake, and which help to ask for.
+/// Prints a mistake, and names the help to read.
 pub fn print_mistake<K: Sink>(
     command: &str,
     mistake: Mistake,

@@ -1,4 +1,4 @@
-//! Numbers among the words of the command line.
+//! Numbers among the arguments of the command line.
 ghost use Rattle.std.specs.Prelude.{◌≡◌, ◌<◌};
 ghost use Rattle.std.specs.Char.{is_ascii_digit};
 ghost use Rattle.std.specs.List.{list_all};

@@ -1,41 +1,32 @@
-//! The words of `opcmds explain` about a level of access.
+//! The arguments of `opcmds explain` about a level of access.
 ghost use Rattle.std.specs.Prelude.{◌≡◌, None, Some, codes};
 ghost use Rattle.clap.specs.Matches.{first_value, found_of};
+ghost use Rattle.opc_answers.specs.declared.question.Asks.TheVariants as asks;
 ghost use Rattle.opc_names.specs.Spellings.{classes, levels, lookup};
 ghost use Rattle.opc_cli_words.specs.Checks.{AreReadAs, IsReadAs};
 ghost use Rattle.opc_cli_words.specs.Options.{
-  IsQuestion,
   class_option,
   console_option,
   given,
+  has_levels,
   level_option,
   question_checks,
   resource_option,
   user_option,
 };
+ghost use Rattle.opc_cli_words.specs.Tasks.{IsTaskOf};
 
 use crate::asking::need_access;
-use crate::flag::is_set;
+use crate::flag::{form_in, is_set};
 use crate::mistake::{Mistake, Opt};
-use crate::source::{Source, source_in};
+use crate::source::source_in;
 use clap::ArgMatches;
+use opc_answers::question::{About, Asks, Question};
+use opc_cli_tasks::question::{Ask, PolicyQuestion};
+use opc_cli_tasks::task::Task;
 use opc_names::class::Class;
 use opc_names::level::Level;
 use opc_names::name::{ConsoleName, Resource, UserId};
-
-/// What is asked: whether a user holds a level on a resource, whether with the level held behind each pattern, whether
-/// the answer is JSON, and by which policy.
-#[derive(Clone, Copy)]
-pub struct Question<'a> {
-    pub user: UserId,
-    pub class: Class,
-    pub resource: Resource,
-    pub console: Option<ConsoleName>,
-    pub level: Level,
-    pub why: bool,
-    pub json: bool,
-    pub source: Source<'a>,
-}
 
 fn user_in(chosen: &ArgMatches<'_>) -> Result<UserId, Mistake>
     ensures { IsReadAs (λ user. user ≡ given (first_value (found_of chosen.now)) (codes "user"))
@@ -94,29 +85,40 @@ pub(crate) fn level_in(chosen: &ArgMatches<'_>) -> Result<Level, Mistake>
     }
 }
 
-impl<'a> Question<'a> {
-    /// The question of these words, or the first mistake in their options.
-    pub fn read(chosen: &ArgMatches<'a>) -> Result<Self, Mistake>
-        ensures { AreReadAs (IsQuestion (first_value (found_of chosen.now)))
-            (question_checks (first_value (found_of chosen.now)) None) result }
-    {
-        let user = user_in(chosen)?;
-        let kind = chosen.get_str("as");
-        need_access(kind, chosen.get_str("resource"), chosen.get_str("level"))?;
-        let class = class_in(chosen)?;
-        let resource = resource_in(chosen)?;
-        let console = console_in(chosen)?;
-        let level = level_in(chosen)?;
-        let source = source_in(chosen)?;
-        Ok(Question {
-            user,
+/// Whether the actor may, and why. JSON always has the level that is held behind each pattern.
+pub(crate) fn why_asked(chosen: &ArgMatches<'_>, actor: Option<UserId>) -> Asks
+    ensures { result ≡ asks.Why actor (has_levels (first_value (found_of chosen.now))) }
+{
+    let (why, json) = (is_set(chosen, "why"), is_set(chosen, "json"));
+    Asks::Why {
+        actor,
+        levels: why || json,
+    }
+}
+
+/// The question of these arguments about a level of access, or the first mistake in their options.
+pub(crate) fn access_question<'a>(chosen: &ArgMatches<'a>) -> Result<Task<'a>, Mistake>
+    requires { first_value (found_of chosen.now) (codes "command") ≡ None }
+    ensures { AreReadAs (IsTaskOf (first_value (found_of chosen.now)) (codes "explain"))
+        (question_checks (first_value (found_of chosen.now)) None) result }
+{
+    let user = user_in(chosen)?;
+    let kind = chosen.get_str("as");
+    need_access(kind, chosen.get_str("resource"), chosen.get_str("level"))?;
+    let class = class_in(chosen)?;
+    let resource = resource_in(chosen)?;
+    let console = console_in(chosen)?;
+    let level = level_in(chosen)?;
+    let source = source_in(chosen)?;
+    let question = Question {
+        about: About::Access {
             class,
             resource,
-            console,
             level,
-            why: is_set(chosen, "why"),
-            json: is_set(chosen, "json"),
-            source,
-        })
-    }
+        },
+        console,
+        asks: why_asked(chosen, Some(user)),
+    };
+    let form = form_in(chosen);
+    Ok(Task::Ask(source, PolicyQuestion::Ask(Ask { question, form })))
 }

@@ -2,11 +2,13 @@
 ghost use Rattle.std.specs.Prelude.{IfOk, [], ◌∷◌, codes};
 ghost use Rattle.opc_cli_words.specs.CommandLine.{IsCommand, explain_options, needed, question_options, who_options};
 
-use crate::command_line::{DATABASE_FILE, POLICY_FILE, command, flag, needed, preset, value};
+use crate::command_line::{
+    DATABASE_FILE, POLICY_FILE, command, flag, needed, positional, preset, value,
+};
 use clap::Command;
 use std::alloc::{AllocError, Global};
 
-/// The command with what may be asked about, and at which console.
+/// The command with the options for the subject of a question, and for its console.
 fn with_question<'a>(alloc: Global, asking: Command<'a>) -> Result<Command<'a>, AllocError>
     ensures explain { IfOk result (λ built. IsCommand asking.entry (codes "explain") (needed (codes "user") ∷ [])
         → IsCommand built (codes "explain") (needed (codes "user") ∷ question_options)) }
@@ -54,7 +56,7 @@ fn with_question<'a>(alloc: Global, asking: Command<'a>) -> Result<Command<'a>, 
         .arg(flag(alloc, "json", "Answers in JSON, an object a line"))
 }
 
-/// The command `explain` before the options that `who` has, too.
+/// The command `explain` before the options that it shares with `who`.
 fn explain_alone<'a>(alloc: Global) -> Result<Command<'a>, AllocError>
     ensures { IfOk result (λ built. IsCommand built (codes "explain") (needed (codes "user") ∷ [])) }
 {
@@ -63,12 +65,12 @@ fn explain_alone<'a>(alloc: Global) -> Result<Command<'a>, AllocError>
         "explain",
         "Says which profile decides for a user, by a policy",
         "opcmds explain --user USER (--command TEXT | --resource R --level L)\n\
-         \x20                     [OPTIONS] [< POLICY]",
+         \x20                     [OPTIONS] [FILE]",
         "Examples: opcmds explain --user ANNA --command 'C PAYROLL' --console C1 \\\n\
          \x20             --why --db gate.db\n\
          \x20         opcmds explain --user ANNA --resource MVS.CANCEL.JOB.PAYROLL \\\n\
-         \x20             --level UPDATE < policy.csv\n\
-         Status: 0 allowed or undecided, 1 refused, 2 bad words or policy file,\n\
+         \x20             --level UPDATE policy.csv\n\
+         Status: 0 allowed or undecided, 1 refused, 2 invalid arguments or policy file,\n\
          \x20       3 out of memory or a failed device",
     )
     .arg(needed(
@@ -91,7 +93,8 @@ pub(crate) fn explain_command<'a>(alloc: Global) -> Result<Command<'a>, AllocErr
              holds in its profile, and from where",
         ))?
         .arg(value(alloc, "policy", "FILE", POLICY_FILE))?
-        .arg(value(alloc, "db", "FILE", DATABASE_FILE))
+        .arg(value(alloc, "db", "FILE", DATABASE_FILE))?
+        .arg(positional(alloc, "file", "FILE", POLICY_FILE))
 }
 
 /// The command `who` before its options.
@@ -102,12 +105,11 @@ fn who_alone<'a>(alloc: Global) -> Command<'a>
         alloc,
         "who",
         "Says who may enter a command, or holds a level, by a policy",
-        "opcmds who (--command TEXT | --resource R --level L) [OPTIONS]\n\
-         \x20                 [< POLICY]",
-        "Each user has a line, and so has each console with nobody on.\n\
+        "opcmds who (--command TEXT | --resource R --level L) [OPTIONS] [FILE]",
+        "Each user has a line, and so has each unattended console.\n\
          \n\
-         Example: opcmds who --command 'C PAYROLL' < policy.csv\n\
-         Status: 0 answered, 1 refused, 2 bad words or policy file,\n\
+         Example: opcmds who --command 'C PAYROLL' policy.csv\n\
+         Status: 0 answered, 1 refused, 2 invalid arguments or policy file,\n\
          \x20       3 out of memory or a failed device",
     )
 }
@@ -118,5 +120,6 @@ pub(crate) fn who_command<'a>(alloc: Global) -> Result<Command<'a>, AllocError>
     with_question(alloc, who_alone(alloc))?
         .arg(flag(alloc, "allowed", "Shows those alone who may"))?
         .arg(value(alloc, "policy", "FILE", POLICY_FILE))?
-        .arg(value(alloc, "db", "FILE", DATABASE_FILE))
+        .arg(value(alloc, "db", "FILE", DATABASE_FILE))?
+        .arg(positional(alloc, "file", "FILE", POLICY_FILE))
 }

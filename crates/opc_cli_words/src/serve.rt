@@ -1,4 +1,4 @@
-//! The words of `opcmds serve`.
+//! The arguments of `opcmds serve`.
 ghost use Rattle.std.specs.Prelude.{◌≡◌, Some, codes};
 ghost use Rattle.std.specs.Option.{option_copied};
 ghost use Rattle.clap.specs.Matches.{first_value, found_of};
@@ -15,7 +15,6 @@ ghost use Rattle.opc_cli_words.specs.Services.{
   socket_modes,
 };
 ghost use Rattle.opc_cli_words.specs.Options.{
-  IsService,
   IsWait,
   count_of,
   count_option,
@@ -24,35 +23,16 @@ ghost use Rattle.opc_cli_words.specs.Options.{
   strict_option,
   timeout_option,
 };
+ghost use Rattle.opc_cli_words.specs.Tasks.{IsTaskOf};
 
 use crate::flag::is_set;
 use crate::mistake::{Mistake, Opt};
 use crate::number::number_between;
+use crate::source::database_in;
 use clap::ArgMatches;
+use opc_cli_tasks::task::Task;
+use opc_cli_tasks::work::{Address, Serve, Work};
 use std::time::Duration;
-
-/// Where `serve` listens.
-#[derive(Clone, Copy, Debug, PartialEq, Eq)]
-pub enum Address<'a> {
-    /// This port of 127.0.0.1; 0 is one that the system chooses.
-    Port(u16),
-    /// The Unix socket at this path, with these permissions.
-    Socket { path: &'a str, mode: u32 },
-}
-
-/// What is served: the tables of a file, at an address, to this many clients.
-#[derive(Clone, Copy)]
-pub struct Serve<'a> {
-    pub path: &'a str,
-    pub address: Address<'a>,
-    pub count: u32,
-    /// The longest that an exchange may take.
-    pub timeout: Option<Duration>,
-    /// What a web page can send is refused.
-    pub strict: bool,
-    /// Each exchange is logged.
-    pub log: bool,
-}
 
 /// A port, 0 to 65,535.
 fn port_in(text: &str) -> Result<u16, Mistake>
@@ -74,7 +54,7 @@ fn path_in<'a>(text: &'a str) -> Result<&'a str, Mistake>
     Ok(text)
 }
 
-/// The permissions with this text. Who may write to a socket may connect to it.
+/// The permissions with this text. Whoever may write to a socket may connect to it.
 fn mode_named(text: &str) -> Option<u32>
     ensures { result ≡ lookup socket_modes text.now }
 {
@@ -148,7 +128,7 @@ fn count_in(chosen: &ArgMatches<'_>) -> Result<u32, Mistake>
     }
 }
 
-/// How long an exchange may take, 0 to 3,600 seconds; with 0, as long as it takes.
+/// How long an exchange may take, 0 to 3,600 seconds; 0 sets no limit.
 fn timeout_in(chosen: &ArgMatches<'_>) -> Result<Option<Duration>, Mistake>
     ensures { IsReadAs (IsWait (first_value (found_of chosen.now))) (timeout_option (first_value (found_of chosen.now)))
         result }
@@ -160,27 +140,25 @@ fn timeout_in(chosen: &ArgMatches<'_>) -> Result<Option<Duration>, Mistake>
     }
 }
 
-impl<'a> Serve<'a> {
-    /// What these words ask for, or the first mistake in their options.
-    pub fn read(chosen: &ArgMatches<'a>) -> Result<Self, Mistake>
-        ensures { AreReadAs (IsService (first_value (found_of chosen.now)))
-            (service_checks (first_value (found_of chosen.now))) result }
-    {
-        let address = address_of(
-            chosen.get_str("port"),
-            chosen.get_str("socket"),
-            chosen.get_str("socket-mode"),
-        )?;
-        let strict = strict_in(chosen)?;
-        let count = count_in(chosen)?;
-        let timeout = timeout_in(chosen)?;
-        Ok(Serve {
-            path: chosen.get_str("db").unwrap_or(""),
-            address,
-            count,
-            timeout,
-            strict,
-            log: is_set(chosen, "log"),
-        })
-    }
+/// What these arguments ask for, or the first mistake in their options.
+pub(crate) fn serve<'a>(chosen: &ArgMatches<'a>) -> Result<Task<'a>, Mistake>
+    ensures { AreReadAs (IsTaskOf (first_value (found_of chosen.now)) (codes "serve"))
+        (service_checks (first_value (found_of chosen.now))) result }
+{
+    let address = address_of(
+        chosen.get_str("port"),
+        chosen.get_str("socket"),
+        chosen.get_str("socket-mode"),
+    )?;
+    let strict = strict_in(chosen)?;
+    let count = count_in(chosen)?;
+    let timeout = timeout_in(chosen)?;
+    let serve = Serve {
+        address,
+        count,
+        timeout,
+        strict,
+        log: is_set(chosen, "log"),
+    };
+    Ok(Task::Work(database_in(chosen), Work::Serve(serve)))
 }

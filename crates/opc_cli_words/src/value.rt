@@ -1,26 +1,31 @@
-//! What is taken as the value of an option, for those who gave another.
+//! Which values an option takes, for those who gave another.
 ghost use Rattle.std.specs.Prelude.{◌≡◌, OnOk, false, if◌then◌else◌, is_err, true};
 ghost use Rattle.opc_cli_failures.specs.Printing.{Grows};
 
 use crate::mistake::{Mistake, Opt};
 use arrayvec::ArrayString;
 use clap::ArgMatches;
+use opc_answers::needed::is_logon;
 use opc_cli_failures::shown::TextStart;
 use opc_io::sink::{Sink, WriteFault, write_whole};
 use opc_names::name::{ConsoleName, Resource, UserId};
 use opc_names::rule::NameFault;
+use opc_times::reading::moment_in;
 use std::fmt;
 use std::fmt::{Display, Formatter, Write as _};
 
 /// More bytes than the line has: it shows 39 characters of a value, each as at most ten bytes.
 const LINE: usize = 640;
 
+/// More bytes than a time in seconds has.
+const TIME: usize = 40;
+
 const NOBODY_OR_USER: &str = "- or 1 to 8 of A to Z, 0 to 9, #, $ and @";
 
-/// The number of a row of the account, or how many.
+/// The number of a row of the account, or a number of rows.
 const ROWS: &str = "1 to 9223372036854775807";
 
-/// An option with the value that is given for it, which does not read, and what it takes.
+/// An option with the invalid value that is given for it, and what it takes.
 #[derive(Drop)]
 struct BadValue<'a> {
     option: Opt,
@@ -28,13 +33,15 @@ struct BadValue<'a> {
     taken: &'static str,
 }
 
-/// What an option of a command takes. Nobody is a user in the account, and where it is asked about a command.
-fn taken_by(command: &str, option: Opt, is_about_command: bool) -> &'static str {
+/// What an option of a command takes. `-`, for nobody, is valid in the account, and may be in a question about a
+/// command.
+fn taken_by(command: &str, option: Opt, may_be_nobody: bool) -> &'static str {
     match (command, option) {
         ("account", Opt::User) => NOBODY_OR_USER,
         ("account", Opt::Console) => "* or 2 to 8 of A to Z, 0 to 9, #, $ and @, no digit first",
         ("account", Opt::Count) => ROWS,
-        ("explain", Opt::User) if is_about_command => NOBODY_OR_USER,
+        ("explain", Opt::User) if may_be_nobody => NOBODY_OR_USER,
+        // The command makes no difference to any other option.
         _ => taken_by_any(option),
     }
 }
@@ -55,23 +62,32 @@ fn taken_by_any(option: Opt) -> &'static str {
         Opt::Count => "1 to 1000000",
         Opt::Timeout => "0 to 3600",
         Opt::From | Opt::Last => ROWS,
-        Opt::Since | Opt::Until => "a time as 2026-11-27T08:00:00Z, or @ and 0 to 9999999999999",
-        Opt::Code => "A to Z and 0 to 9, with * at the end for all that begin so",
-        Opt::Allow => "N and two digits, with commas between several",
+        Opt::Since | Opt::Until => {
+            "a time as 2026-11-27T08:00:00Z, a day as 2026-11-27, @ and 0 to 9999999999999, or how long ago as -8h"
+        }
+        Opt::Code => "a code as E20, or E2* for all that begin so, with commas between several",
+        Opt::Allow => "N01 to N06 or N08 to N19, with commas between several",
         // No value of these is a mistake.
         Opt::Command | Opt::Now | Opt::Strict => "another value",
     }
 }
 
-/// What is wrong with a value that has to be a name.
+/// What is wrong with a value that must be a name.
 fn name_fault(option: Opt, value: &str) -> Option<NameFault> {
     match option {
         Opt::User => UserId::read(value).err(),
         Opt::Console => ConsoleName::read(value).err(),
         Opt::Resource => Resource::read(value).err(),
-        // The others take no name alone.
+        // The other options take more than a name.
         _ => None,
     }
+}
+
+/// Whether a value is a time but for its offset from UTC.
+fn lacks_offset(option: Opt, value: &str) -> bool {
+    let mut time = ArrayString::<TIME>::new();
+    let _ = write!(time, "{value}Z");
+    matches!(option, Opt::Since | Opt::Until) && moment_in(time.as_str()).is_some()
 }
 
 impl Display for BadValue<'_> {
@@ -85,7 +101,18 @@ impl Display for BadValue<'_> {
             Some(NameFault::TooLong) => f.write_str("too long, ")?,
             Some(NameFault::Empty) | None => {}
         }
+        if lacks_offset(self.option, self.value) {
+            f.write_str("without its offset from UTC, ")?;
+        }
         writeln!(f, "expected {}", self.taken)
+    }
+}
+
+/// Whether `-`, for nobody, is valid: for this command, if the question is about one. Nobody logs on.
+fn may_be_nobody(command: Option<&str>) -> bool {
+    match command {
+        Some(text) => !is_logon(text),
+        None => false,
     }
 }
 
@@ -98,8 +125,8 @@ fn print_note<K: Sink>(bad: &BadValue<'_>, errors: &mut K) -> Result<(), WriteFa
     write_whole(errors, line.as_str().as_bytes())
 }
 
-/// Prints, if the mistake is in a value, that value and what is taken in its place. That is a note beside the mistake,
-/// of which no clause speaks; the tables of `tools/program` have the words.
+/// Prints, if the mistake is in a value, that value and the values that are valid. That is a note beside the mistake,
+/// which no clause states; the tables of `tools/program` have the words.
 pub fn note_value<K: Sink>(command: &str, mistake: Mistake, chosen: &ArgMatches<'_>, errors: &mut K)
     ensures noted { K.has_failed errors.new ≡ false → Grows (K.held errors.old) (K.held errors.new) }
     ensures kept { K.has_failed errors.new ≡ false → K.has_failed errors.old ≡ false }
@@ -110,12 +137,12 @@ pub fn note_value<K: Sink>(command: &str, mistake: Mistake, chosen: &ArgMatches<
     let Some(value) = chosen.get_str(option.name()) else {
         return;
     };
-    let taken = taken_by(command, option, chosen.get_str("command").is_some());
+    let taken = taken_by(command, option, may_be_nobody(chosen.get_str("command")));
     let bad = BadValue {
         option,
         value,
         taken,
     };
-    // (without which the mistake is printed all the same)
+    // (if the note fails, the mistake is printed nevertheless)
     let _ = print_note(&bad, errors);
 }

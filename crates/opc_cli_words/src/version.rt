@@ -1,4 +1,4 @@
-//! What the program says of itself.
+//! The version of the program.
 ghost use Rattle.std.specs.Prelude.{OnOk};
 ghost use Rattle.std.specs.Io.KnownBytes.{Appends};
 ghost use Rattle.opc_cli_words.specs.Version.{version_line};

@@ -6,5 +6,6 @@ pub returns : goal.returns
 returns c =
     let policy = one_option_more _ _ _ _ _ _ c.command.ensures c.value.ensures.rule c.value.ensures.alone c.in_ok-arg.ensures in
     let database = one_option_more _ _ _ _ _ _ policy c.value-2.ensures.rule c.value-2.ensures.alone c.in_ok-arg-2.ensures in
-    let allowed = one_option_more _ _ _ _ _ _ database c.value-3.ensures.rule c.value-3.ensures.alone c.in_ok-arg-3.ensures in
-    IfOk-weaker c.arg-4.result _ _ (λ built. one_option_more _ built _ _ _ _ allowed c.flag.ensures.rule c.flag.ensures.alone) c.arg-4.ensures
+    let file = one_option_more _ _ _ _ _ _ database c.positional.ensures.rule c.positional.ensures.alone c.in_ok-arg-3.ensures in
+    let allowed = one_option_more _ _ _ _ _ _ file c.value-3.ensures.rule c.value-3.ensures.alone c.in_ok-arg-4.ensures in
+    IfOk-weaker c.arg-5.result _ _ (λ built. one_option_more _ built _ _ _ _ allowed c.flag.ensures.rule c.flag.ensures.alone) c.arg-5.ensures

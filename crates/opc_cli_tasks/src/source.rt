@@ -1,0 +1,10 @@
+//! Where a policy comes from.
+
+/// Where a policy comes from.
+#[derive(Clone, Copy)]
+pub enum PolicySource<'a> {
+    /// A policy file: the one at this path, or the one on the input.
+    PolicyFile(Option<&'a str>),
+    /// The tables of the database file at this path.
+    Database(&'a str),
+}

@@ -1,0 +1,25 @@
+//! What the command line asks for.
+use crate::question::PolicyQuestion;
+use crate::source::PolicySource;
+use crate::work::{Lines, Work};
+use opc_account::asked::AskedQuery;
+
+/// What the arguments ask for.
+#[derive(Clone, Copy)]
+pub enum Task<'a> {
+    /// A question about the policy from this source is answered.
+    Ask(PolicySource<'a>, PolicyQuestion<'a>),
+    /// Rows of the account in the database file at this path are shown.
+    Account(&'a str, AskedQuery<'a>),
+    /// This operation runs over the tables of the database file at this path.
+    Work(&'a str, Work<'a>),
+    /// Lines are answered over tables in memory, after a first policy if a file of one is named.
+    InMemory {
+        policy: Option<&'a str>,
+        lines: Lines<'a>,
+    },
+    /// The digest of the password on the input is printed.
+    Digest,
+    /// The table of the commands that an operator may type is printed.
+    Commands,
+}

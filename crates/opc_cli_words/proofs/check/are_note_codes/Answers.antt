@@ -1,0 +1,11 @@
+use Rattle.std.proofs.Common.{lit<, rules}
+use Rattle.std.proofs.lemmas.Iterator.Search.{all_from_yields_List}
+use Rattle.std.proofs.lemmas.Iterator.Splits.{YieldsList-from_str_split}
+use Rattle.opc_cli_words.specs.Codes.{is_note_code}
+use Rattle.opc_cli_words.proofs.check.are_note_codes.Goals as goal
+
+pub returns : goal.returns
+returns c =
+    all_from_yields_List is_note_code _ _ _ c.all.ensures.ran
+    (YieldsList-from_str_split 44 c.args.text.now (lit< tt) c.split.ensures.text c.split.ensures.has_more c.split.ensures.pattern)
+    (λ x b q k. search rules)

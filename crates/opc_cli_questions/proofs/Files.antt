@@ -5,7 +5,8 @@ use Rattle.std.proofs.lemmas.List.{length-take, take_all}
 use Rattle.opc_terms.specs.declared.fault.Fault.{Fault}
 use Rattle.opc_policy_members.specs.declared.row.Row.{Row}
 use Rattle.opc_cli_failures.specs.Statuses.{IsFailure}
-use Rattle.opc_cli_questions.specs.PolicyFiles.{AreRead, IsBadFile, IsNoPolicyFile, IsNoText, IsPolicyFile, IsRefused, IsUnread, policy_limit}
+use Rattle.opc_cli_questions.specs.PolicyFiles.{AreRead, IsBadFile, IsNoPolicyFile, IsNoText, IsPolicyFile, IsRefused, IsUnread}
+use Rattle.opc_check.specs.Unread.{policy_limit}
 
 whole : (n : ℕ) (all : List ℕ) → length (take (n + 1) all) ≤ n → take (n + 1) all ≡ all
 whole n all h = take_all (n + 1) all (omega (arith, h, length-take (n + 1) all))

@@ -2,3 +2,5 @@ pub mod Files
 pub mod Taking
 mod Bytes
 pub mod Parts
+pub mod Named
+mod OneRow

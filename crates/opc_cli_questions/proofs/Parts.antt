@@ -13,7 +13,7 @@ use Rattle.opc_answers.specs.declared.lines.UserLine.{UserLine}
 use Rattle.opc_answers.specs.declared.who.Who.{Who}
 use Rattle.opc_answers.specs.Who.{consoles_of, raised_of, raised_there, users_of}
 use Rattle.opc_answers.specs.declared.counts.Share.{Share}
-use Rattle.opc_answers.specs.Json.{consoles_json, json_line, question_value, user_json}
+use Rattle.opc_answers.specs.Json.{beginning_json, consoles_json, user_json}
 use Rattle.opc_answers.specs.Texts.{beginning_text, console_lines_text, counts_of, counts_text, may, share_of, shown_user}
 use Rattle.opc_check.specs.declared.form.Form.{Form}
 use Rattle.opc_check.specs.declared.form.Form.TheVariants as form
@@ -77,7 +77,7 @@ whole form.Text allowed who =
     joined (beginning_text who) (flat_map (shown_user allowed) (users_of who)) (flat_map (shown_user allowed) (raised_of who))
     (console_lines_text allowed (consoles_of who)) (counts_text (counts_of who))
 whole form.Json allowed who =
-    let a = json_line (question_value who) in
+    let a = beginning_json who in
     let b = flat_map (user_json allowed) (users_of who) in
     let c = flat_map (user_json allowed) (raised_of who) in
     let d = consoles_json allowed (consoles_of who) in

@@ -1,5 +1,5 @@
--- What tables answer to questions about their policy.
-use Rattle.std.specs.Prelude.{ℕ, List, Option, Result, Ok}
+-- The answers of tables to questions about their policy.
+use Rattle.std.specs.Prelude.{ℕ, List, None, Option, Result, Ok}
 use Rattle.std.specs.Option.{option_copied}
 use Rattle.opc_terms.specs.declared.fault.Fault.{Fault}
 use Rattle.opc_policy_members.specs.declared.row.Row.{Row}
@@ -8,23 +8,23 @@ use Rattle.opc_state.specs.Changes.{IsKept}
 use Rattle.opc_state.specs.Meaning.{Meaning}
 use Rattle.opc_state.specs.PolicyFile.{rows_of}
 use Rattle.opc_state.specs.State.{State}
-use Rattle.opc_cli_questions.specs.Checks.{form_of, noted}
+use Rattle.opc_cli_questions.specs.Checks.{noted}
 use Rattle.opc_cli_failures.specs.declared.failure.Failure.{Failure}
 use Rattle.opc_cli_failures.specs.declared.status.Status.{Status}
 use Rattle.opc_answers.specs.declared.question.About.{About}
 use Rattle.opc_answers.specs.declared.question.About.TheVariants.{Command, Access}
-use Rattle.opc_cli_questions.specs.Printed.{Answer, IsWritten}
+use Rattle.opc_cli_questions.specs.Printed.{PrintedAnswer, IsWritten}
 use Rattle.opc_cli_questions.specs.Questions.{question_answer}
 use Rattle.opc_cli_questions.specs.Kinds.{kind_in, kind_or}
-use Rattle.opc_cli_questions.specs.declared.question.Ask.{Ask}
-use Rattle.opc_cli_questions.specs.declared.question.PolicyQuestion.{PolicyQuestion}
-use Rattle.opc_cli_questions.specs.declared.question.PolicyQuestion.TheVariants as question
+use Rattle.opc_cli_tasks.specs.declared.question.Ask.{Ask}
+use Rattle.opc_cli_tasks.specs.declared.question.PolicyQuestion.{PolicyQuestion}
+use Rattle.opc_cli_tasks.specs.declared.question.PolicyQuestion.TheVariants as question
 
 -- the rows of the policy file that an export of a state writes
 abbrev pub exported_rows : State → List Row
 exported_rows s = rows_of s.policy s.board.consoles
 
--- A question about a command is about the unit on the board, unless --as says what the unit is.
+-- A question about a command is about the unit on the board, unless --as gives its kind.
 abbrev pub about_on : State → About → About
 about_on s (Command text kind) = Command text (kind_or kind (kind_in s.board (reading text.now)))
 about_on s (Access class resource level) = Access class resource level
@@ -37,18 +37,18 @@ on_board s (question.Ask ask) = question.Ask (ask_on s ask)
 on_board s (question.Check c) = question.Check c
 
 -- What the rows of a policy answer. Those of an export can be loaded, so that `check` has notes on them alone.
-abbrev pub rows_answer : PolicyQuestion → List Row → Result Answer Fault
+abbrev pub rows_answer : PolicyQuestion → List Row → Result PrintedAnswer Fault
 rows_answer (question.Ask ask) rows = question_answer ask rows
-rows_answer (question.Check c) rows = Ok (noted (form_of c.json) (option_copied c.allowed) rows)
+rows_answer (question.Check c) rows = Ok (noted c.form (option_copied c.allowed) None rows)
 
 -- what a state answers to a question
-abbrev pub state_answer : State → PolicyQuestion → Result Answer Fault
+abbrev pub state_answer : State → PolicyQuestion → Result PrintedAnswer Fault
 state_answer s q = rows_answer (on_board s q) (exported_rows s)
 
 module _ {T W : Type 0} (m : Meaning T) (contents : W → Option (List ℕ)) (old new : T) (before written : W)
     (end : Result Status Failure) where
-  -- The answer of the state that the tables represent was written, and they were not changed; or there was no memory,
-  -- or the tables or the output failed.
+  -- The answer of the state that the tables represent was written, and they were not changed; or an allocation, the
+  -- tables or the output failed.
   pub record IsAnsweredOver (q : PolicyQuestion) : Type 0 where
     pub kept : IsKept m old new
     pub answers : m.is_sure new → (s : State) → m.represents old s

@@ -1,3 +1,4 @@
+pub mod Asking
 pub mod Printed
 pub mod PolicyFiles
 pub mod Questions
@@ -8,3 +9,6 @@ pub mod Answers
 pub mod Kinds
 pub mod Laws
 pub mod WhoPrinted
+pub mod ShownRows
+pub mod StoredNotes
+pub mod EmptyRoom

@@ -7,11 +7,8 @@ use Rattle.opc_policy_members.specs.declared.row.Row.{Row}
 use Rattle.opc_import.specs.declared.fault.ImportFault.{ImportFault}
 use Rattle.opc_import.specs.Faults.{as_fault}
 use Rattle.opc_import.specs.Files.{policy_of}
+use Rattle.opc_check.specs.Unread.{policy_limit}
 use Rattle.opc_cli_failures.specs.Statuses.{IsFailure}
-
--- the most bytes of a policy file
-abbrev pub policy_limit : ℕ
-policy_limit = 16777216
 
 -- The bytes are a policy file, and have these rows.
 pub record IsPolicyFile (bytes : List ℕ) (rows : List Row) : Type 0 where
@@ -51,6 +48,6 @@ pub record IsRefused (left : Option (List ℕ)) (fault : Fault) : Type 0 where
   pub whole : AreLeft left bytes
   pub no_file : IsNoPolicyFile bytes fault
 
--- No rows were read: there was no memory, the reader failed, or it gave no valid policy file.
+-- No rows were read: an allocation or the reader failed, or it gave no valid policy file.
 abbrev pub IsUnread : Option (List ℕ) → Fault → Type 0
 IsUnread left fault = IsFailure fault ⊎ IsRefused left fault

@@ -32,13 +32,13 @@ use Rattle.opc_cli_failures.specs.Statuses.{IsFailure, status_of_end}
 use Rattle.opc_cli_questions.specs.PolicyFiles.{AreRead, IsUnread}
 
 -- an answer: its text, and the status
-abbrev pub Answer : Type 0
-Answer = List ℕ × Status
+abbrev pub PrintedAnswer : Type 0
+PrintedAnswer = List ℕ × Status
 
-abbrev pub answered : List ℕ → Status → Answer
+abbrev pub answered : List ℕ → Status → PrintedAnswer
 answered text status = (text, status)
 
--- what needs nothing anybody may do
+-- anybody may do what needs nothing
 abbrev pub nothing_text : Form → List ℕ
 nothing_text Text = codes "NEEDS NOTHING\n"
 nothing_text Json = codes "{\"needs\":\"nothing\"}\n"
@@ -55,20 +55,20 @@ left_in holds left (Some path) = holds path.now
 module _ {W : Type 0} (contents : W → Option (List ℕ)) (before written : W) where
   -- The text was written, with this status; if there is no answer, its fault is returned. Or there was no memory, or
   -- the output failed.
-  abbrev pub IsWritten : Result Answer Fault → Result Status Failure → Type 0
+  abbrev pub IsWritten : Result PrintedAnswer Fault → Result Status Failure → Type 0
   IsWritten answer (Ok status) =
       (text : List ℕ) × (answer ≡ Ok (answered text status)) × Appends (contents before) (contents written) text
   IsWritten answer (Err failure) = IsFailure failure.fault ⊎ ((answer ≡ Err failure.fault) × (written ≡ before))
 
   -- No rows were read and nothing was written, or the rows that the policy file had answer.
-  abbrev pub IsAnsweredBy : (List Row → Result Answer Fault) → Option (List ℕ) → Result Status Failure → Type 0
+  abbrev pub IsAnsweredBy : (List Row → Result PrintedAnswer Fault) → Option (List ℕ) → Result Status Failure → Type 0
   IsAnsweredBy answer left end =
       (IsErrAnd end (λ failure. IsUnread left failure.fault) × (written ≡ before))
       ⊎ ((rows : List Row) × AreRead left rows × IsWritten (answer rows) end)
 
 -- The answer was given, and the status returned; a fault is printed, unless a write of it failed.
 pub record IsReportedBy {W K : Type 0} (contents : W → Option (List ℕ)) (held : K → Option (List ℕ))
-    (has_failed : K → Bool) (before written : W) (quiet reported : K) (answer : List Row → Result Answer Fault)
+    (has_failed : K → Bool) (before written : W) (quiet reported : K) (answer : List Row → Result PrintedAnswer Fault)
     (left : Option (List ℕ)) (status : Status) : Type 0 where
   pub end : Result Status Failure
   pub answered : IsAnsweredBy contents before written answer left end

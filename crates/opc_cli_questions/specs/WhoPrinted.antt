@@ -5,14 +5,14 @@ use Rattle.opc_answers.specs.declared.consoles.ConsoleLine.{ConsoleLine}
 use Rattle.opc_answers.specs.declared.lines.UserLine.{UserLine}
 use Rattle.opc_answers.specs.declared.who.Who.{Who}
 use Rattle.opc_answers.specs.declared.counts.Counts.{Counts}
-use Rattle.opc_answers.specs.Json.{consoles_json, json_line, question_value, user_json}
+use Rattle.opc_answers.specs.Json.{beginning_json, consoles_json, user_json}
 use Rattle.opc_answers.specs.Texts.{beginning_text, console_lines_text, counts_text, shown_user}
 use Rattle.opc_check.specs.declared.form.Form.{Form}
 use Rattle.opc_check.specs.declared.form.Form.TheVariants.{Json, Text}
 
 abbrev pub beginning : Form → Who → List ℕ
 beginning Text who = beginning_text who
-beginning Json who = json_line (question_value who)
+beginning Json who = beginning_json who
 
 abbrev pub users_shown : Form → (allowed : Bool) → List UserLine → List ℕ
 users_shown Text allowed lines = flat_map (shown_user allowed) lines

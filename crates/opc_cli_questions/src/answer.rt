@@ -1,4 +1,4 @@
-//! What a policy file answers, and how an answer is printed.
+//! The answer of a policy file, and how it is printed.
 ghost use Rattle.std.specs.Prelude.{◌≡◌, IfErr, IfOk, OnOk, string_bytes};
 ghost use Rattle.std.specs.Io.KnownBytes.{Appends};
 ghost use Rattle.opc_answers.specs.Answers.{CanBePrinted};
@@ -6,17 +6,17 @@ ghost use Rattle.opc_cli_failures.specs.Statuses.{IsFailure};
 ghost use Rattle.opc_cli_questions.specs.Printed.{IsAnsweredBy, IsReportedBy, IsWritten, left_in, status_of_verdict};
 ghost use Rattle.opc_cli_questions.specs.Questions.{question_answer, shown, status_of, status_of_why, why_shown};
 
+use crate::asking::{unanswered, unanswered_by};
 use crate::openings::Openings;
-use crate::policy_file::{paths_of, place_of, read_rows_from};
+use crate::policy_file::{PolicyText, paths_of, place_of, read_rows_from};
 use crate::printing::{no_memory, nothing_text, print_text};
-use crate::question::Ask;
-use crate::refusals::refused;
 use crate::who_printing::print_who;
-use opc_answers::answer::{Answer, answer_of};
-use opc_answers::why::Why;
+use opc_answers::answer::{PolicyAnswer, answer_of};
+use opc_answers::why::Explanation;
 use opc_check::form::Form;
 use opc_cli_failures::failure::{Failure, Place, reported};
 use opc_cli_failures::status::Status;
+use opc_cli_tasks::question::Ask;
 use opc_io::sink::Sink;
 use opc_policy::verdict::Verdict;
 use opc_policy_members::row::Row;
@@ -51,27 +51,27 @@ fn answer_by<F: Openings, R: Read, W: Write>(
     ensures { IsAnsweredBy W.contents output.old output.new (question_answer ask.now)
         (left_in (F.holds files.now) (R.remaining input.old) policy.entry) result }
 {
-    let rows = read_rows_from(alloc, files, policy, input)?;
-    print_by(alloc, place_of(policy), &rows, ask, output)
+    let file = read_rows_from(alloc, files, policy, input)?;
+    print_by(alloc, place_of(policy), &file, ask, output)
 }
 
-/// Prints what the rows of a policy file answer; of a row that is refused, which it is.
+/// Prints the answer of the rows of a policy file, or which row is refused.
 fn print_by<W: Write>(
     alloc: Global,
     place: Place,
-    rows: &[Row],
+    file: &PolicyText,
     ask: &Ask<'_>,
     output: &mut W,
 ) -> Result<Status, Failure>
-    ensures { IsWritten W.contents output.old output.new (question_answer ask.now rows.now) result }
+    ensures { IsWritten W.contents output.old output.new (question_answer ask.now file.now.rows.items) result }
 {
-    match answer_of(alloc, rows, &ask.question) {
+    match answer_of(alloc, file.rows.as_slice(), &ask.question) {
         Ok(answer) => print_answer(alloc, &answer, ask.form, output),
-        Err(fault) => Err(refused(alloc, place, &[], rows, fault)),
+        Err(fault) => Err(unanswered_by(alloc, place, file, &ask.question, fault)),
     }
 }
 
-/// Prints what the rows of a policy answer.
+/// Prints the answer of the rows of a policy.
 pub(crate) fn print_ask<W: Write>(
     alloc: Global,
     rows: &[Row],
@@ -82,11 +82,11 @@ pub(crate) fn print_ask<W: Write>(
 {
     match answer_of(alloc, rows, &ask.question) {
         Ok(answer) => print_answer(alloc, &answer, ask.form, output),
-        Err(fault) => Err(Failure::from(fault)),
+        Err(fault) => Err(unanswered(alloc, rows, &ask.question, fault)),
     }
 }
 
-fn why_shown(alloc: Global, why: &Why, form: Form) -> Result<String, AllocError>
+fn why_shown(alloc: Global, why: &Explanation, form: Form) -> Result<String, AllocError>
     ensures { IfOk result (λ text. string_bytes text ≡ why_shown form why.now) }
 {
     match form {
@@ -95,7 +95,12 @@ fn why_shown(alloc: Global, why: &Why, form: Form) -> Result<String, AllocError>
     }
 }
 
-fn print_why<W: Write>(alloc: Global, why: &Why, form: Form, output: &mut W) -> Result<(), Failure>
+fn print_why<W: Write>(
+    alloc: Global,
+    why: &Explanation,
+    form: Form,
+    output: &mut W,
+) -> Result<(), Failure>
     ensures text { OnOk result (Appends (W.contents output.old) (W.contents output.new) (why_shown form why.now)) }
     ensures fails { IfErr result (λ failure. IsFailure failure.fault) }
 {
@@ -107,7 +112,7 @@ fn print_why<W: Write>(alloc: Global, why: &Why, form: Form, output: &mut W) -> 
 
 fn print_shown<W: Write>(
     alloc: Global,
-    answer: &Answer,
+    answer: &PolicyAnswer,
     form: Form,
     output: &mut W,
 ) -> Result<(), Failure>
@@ -116,9 +121,9 @@ fn print_shown<W: Write>(
     ensures fails { IfErr result (λ failure. IsFailure failure.fault) }
 {
     match answer {
-        Answer::Nothing => print_text(nothing_text(form), output),
-        Answer::Why(why) => print_why(alloc, why, form, output),
-        Answer::Who(who, allowed) => print_who(alloc, form, *allowed, who, output),
+        PolicyAnswer::Nothing => print_text(nothing_text(form), output),
+        PolicyAnswer::Why(why) => print_why(alloc, why, form, output),
+        PolicyAnswer::Who(who, allowed) => print_who(alloc, form, *allowed, who, output),
     }
 }
 
@@ -131,29 +136,29 @@ fn status_of_verdict(verdict: Verdict) -> Status
     }
 }
 
-/// A user who does not get on may not.
-fn status_of_why(why: &Why) -> Status
-    ensures { result ≡ status_of_why why.now.verdict why.now.no_logon }
+/// Whatever is said in the place of a verdict is that the user may not.
+fn status_of_why(why: &Explanation) -> Status
+    ensures { result ≡ status_of_why why.now.verdict why.now.instead }
 {
-    match why.no_logon {
+    match why.instead {
         Some(_) => Status::Refused,
         None => status_of_verdict(why.verdict),
     }
 }
 
-fn status_of(answer: &Answer) -> Status
+fn status_of(answer: &PolicyAnswer) -> Status
     ensures { result ≡ status_of answer.now }
 {
     match answer {
-        Answer::Why(why) => status_of_why(why),
-        Answer::Nothing | Answer::Who(..) => Status::Done,
+        PolicyAnswer::Why(why) => status_of_why(why),
+        PolicyAnswer::Nothing | PolicyAnswer::Who(..) => Status::Done,
     }
 }
 
 /// Prints an answer, and returns its status.
 fn print_answer<W: Write>(
     alloc: Global,
-    answer: &Answer,
+    answer: &PolicyAnswer,
     form: Form,
     output: &mut W,
 ) -> Result<Status, Failure>

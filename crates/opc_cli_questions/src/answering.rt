@@ -1,7 +1,7 @@
 //! Answers by the policy and the board of tables.
-ghost use Rattle.std.specs.Prelude.{◌≡◌, IfErr, IfOk, IsErrAnd, Ok, string_bytes};
+ghost use Rattle.std.specs.Prelude.{◌≡◌, IfErr, IfOk, IsErrAnd, None, Ok, string_bytes};
 ghost use Rattle.std.specs.Option.{option_copied};
-ghost use Rattle.opc_cli_questions.specs.Checks.{form_of, noted};
+ghost use Rattle.opc_cli_questions.specs.Checks.{noted};
 ghost use Rattle.opc_cli_failures.specs.Statuses.{IsFailure};
 ghost use Rattle.opc_cli_questions.specs.Printed.{IsWritten, answered};
 ghost use Rattle.opc_state.specs.Asked.{Loads};
@@ -16,14 +16,12 @@ ghost use Rattle.opc_cli_questions.specs.Answers.{
 
 use crate::answer::print_ask;
 use crate::check_answer::noted;
-use crate::checking::form_of;
 use crate::kinds::kind_on;
-use crate::printing::{Answer, print};
-use crate::question::{Ask, PolicyQuestion};
+use crate::printing::{PrintedAnswer, print};
 use opc_answers::question::{About, Question};
 use opc_cli_failures::failure::Failure;
 use opc_cli_failures::status::Status;
-use opc_cli_words::check::PolicyCheck;
+use opc_cli_tasks::question::{Ask, PolicyCheck, PolicyQuestion};
 use opc_names::name::ConsoleName;
 use opc_policy_members::row::Row;
 use opc_state::tables::Tables;
@@ -32,7 +30,7 @@ use opc_terms::store_fault::StoreFault;
 use std::alloc::Global;
 use std::io::Write;
 
-/// A command with the kind of the unit on the board, if --as does not say what the unit is.
+/// A command with the kind of the unit on the board, if --as does not give the kind.
 fn about_on<'a, T: Tables>(tables: &mut T, about: &About<'a>) -> Result<About<'a>, StoreFault>
     ensures { Loads T.meaning tables.old tables.new result (λ s on. on ≡ about_on s about.now) }
 {
@@ -69,7 +67,7 @@ fn ask_on<'a, T: Tables>(tables: &mut T, ask: &Ask<'a>) -> Result<Ask<'a>, Store
     }
 }
 
-/// The question about the units that are on the board.
+/// The question, with the kinds of the units on the board.
 fn on_board<'a, T: Tables>(
     tables: &mut T,
     question: &PolicyQuestion<'a>,
@@ -83,24 +81,28 @@ fn on_board<'a, T: Tables>(
         },
         // It names no unit. (The borrow checker copies its fields, but not the whole of it.)
         PolicyQuestion::Check(check) => Ok(PolicyQuestion::Check(PolicyCheck {
-            json: check.json,
+            form: check.form,
             ..*check
         })),
     }
 }
 
 /// The notes on rows that can be loaded.
-fn check_answer(alloc: Global, rows: &[Row], check: &PolicyCheck<'_>) -> Result<Answer, Fault>
+fn check_answer(
+    alloc: Global,
+    rows: &[Row],
+    check: &PolicyCheck<'_>,
+) -> Result<PrintedAnswer, Fault>
     ensures ok { IfOk result (λ answer. answered (string_bytes answer.text) answer.status
-        ≡ noted (form_of check.now.json) (option_copied check.now.allowed) rows.now) }
+        ≡ noted check.now.form (option_copied check.now.allowed) None rows.now) }
     ensures fault { IfErr result (λ fault. IsFailure fault) }
 {
-    Ok(noted(alloc, form_of(check.json), check.allowed, rows)?)
+    Ok(noted(alloc, check.form, check.allowed, None, rows)?)
 }
 
 /// A question about the units on the board, and the rows that answer it.
 #[derive(Drop)]
-struct Asking<'a> {
+struct LoadedQuestion<'a> {
     question: PolicyQuestion<'a>,
     rows: Vec<Row>,
 }
@@ -109,23 +111,26 @@ fn loaded<'a, T: Tables>(
     alloc: Global,
     tables: &mut T,
     question: &PolicyQuestion<'a>,
-) -> Result<Asking<'a>, StoreFault>
+) -> Result<LoadedQuestion<'a>, StoreFault>
     ensures { Loads T.meaning tables.old tables.new result (λ s asking.
         (asking.question ≡ on_board s question.now) × (asking.rows.items ≡ exported_rows s)) }
 {
-    // For the prover alone, which needs the type of a row's console named.
+    // Named for the prover, which otherwise cannot infer the type of a row's console.
     let _nowhere: Option<ConsoleName> = None;
     match on_board(tables, question) {
         Ok(question) => {
             let rows = tables.written(alloc)?;
-            Ok(Asking { question, rows })
+            Ok(LoadedQuestion { question, rows })
         }
         Err(fault) => Err(fault),
     }
 }
 
 /// Prints an answer that was made; of none its fault is returned.
-fn print_made<W: Write>(made: Result<Answer, Fault>, output: &mut W) -> Result<Status, Failure>
+fn print_made<W: Write>(
+    made: Result<PrintedAnswer, Fault>,
+    output: &mut W,
+) -> Result<Status, Failure>
     ensures ok { IfOk made (λ answer. IsWritten W.contents output.old output.new
         (Ok (answered (string_bytes answer.text) answer.status)) result) }
     ensures fault { IfErr made (λ fault. IsErrAnd result (λ failure. failure.fault ≡ fault)) }
@@ -137,10 +142,10 @@ fn print_made<W: Write>(made: Result<Answer, Fault>, output: &mut W) -> Result<S
     }
 }
 
-/// Prints what loaded rows answer.
+/// Prints the answer of loaded rows.
 fn print_asked<W: Write>(
     alloc: Global,
-    asking: &Asking<'_>,
+    asking: &LoadedQuestion<'_>,
     output: &mut W,
 ) -> Result<Status, Failure>
     ensures { IsWritten W.contents output.old output.new

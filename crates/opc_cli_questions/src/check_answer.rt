@@ -1,4 +1,4 @@
-//! What is answered about the bytes of a policy file.
+//! The answer about the bytes of a policy file.
 ghost use Rattle.std.specs.Prelude.{◌≡◌, IfOk, string_bytes};
 ghost use Rattle.std.specs.Option.{option_copied};
 ghost use Rattle.serde_json.specs.View.{view};
@@ -7,7 +7,6 @@ ghost use Rattle.opc_cli_questions.specs.Checks.{
   AnswersFound,
   IsAnswer,
   answer_of,
-  answered,
   good_line,
   good_value,
   noted,
@@ -15,13 +14,15 @@ ghost use Rattle.opc_cli_questions.specs.Checks.{
   status_with,
   whole,
 };
+ghost use Rattle.opc_cli_questions.specs.Printed.{answered};
 ghost use Rattle.opc_check.specs.declared.form.Form.TheVariants as form_is;
 
 use crate::noted::{kept_of, lines_of};
-use crate::printing::Answer;
+use crate::printing::PrintedAnswer;
 use opc_check::checked::{Checked, check};
 use opc_check::counted::{header_line, rows_word};
 use opc_check::form::Form;
+use opc_check::unread::{POLICY_LIMIT, not_utf8, too_long};
 use opc_check_notes::notes::notes;
 use opc_cli_failures::status::Status;
 use opc_names::name::ConsoleName;
@@ -30,14 +31,11 @@ use serde_json::{Value, json};
 use std::alloc::{AllocError, Global};
 use std::str;
 
-/// The most bytes of a policy file.
-pub(crate) const POLICY_LIMIT: u32 = 16_777_216;
-
 /// What is wrong with all of a file.
-fn whole(alloc: Global, form: Form, text: &str) -> Result<Answer, AllocError>
+fn whole(alloc: Global, form: Form, text: &str) -> Result<PrintedAnswer, AllocError>
     ensures { IfOk result (λ answer. answered (string_bytes answer.text) answer.status ≡ whole form text.now) }
 {
-    Ok(Answer {
+    Ok(PrintedAnswer {
         text: header_line(alloc, form, text)?,
         status: Status::BadInput,
     })
@@ -92,46 +90,48 @@ fn status_with(notes: usize) -> Status
     }
 }
 
-/// What is answered about rows that can be loaded.
+/// The answer about rows that can be loaded, those of a text or of tables.
 pub fn noted(
     alloc: Global,
     form: Form,
     allowed: Option<&str>,
+    text: Option<&str>,
     rows: &[Row],
-) -> Result<Answer, AllocError>
+) -> Result<PrintedAnswer, AllocError>
     ensures { IfOk result (λ answer. answered (string_bytes answer.text) answer.status
-        ≡ noted form (option_copied allowed.entry) rows.now) }
+        ≡ noted form (option_copied allowed.entry) (option_copied text.entry) rows.now) }
 {
-    // Named for the prover, which else does not find the type of a row's console.
+    // Named for the prover, which otherwise cannot infer the type of a row's console.
     let _nowhere: Option<ConsoleName> = None;
     let all = notes(alloc, rows)?;
     let kept = kept_of(alloc, allowed, all.as_slice())?;
     let told = kept.as_slice();
-    let mut text = lines_of(alloc, form, told)?;
+    let mut lines = lines_of(alloc, form, text, rows, told)?;
     let last = good_line(alloc, form, rows.len(), told.len())?;
-    text.push_str(last.as_str())?;
-    Ok(Answer {
-        text,
+    lines.push_str(last.as_str())?;
+    Ok(PrintedAnswer {
+        text: lines,
         status: status_with(told.len()),
     })
 }
 
-/// What is answered about what was found.
+/// The answer about what was found in a text.
 fn of_found(
     alloc: Global,
     form: Form,
     allowed: Option<&str>,
+    text: &str,
     found: Checked,
-) -> Result<Answer, AllocError>
-    ensures { IfOk result (λ answer. AnswersFound form (option_copied allowed.entry) found
+) -> Result<PrintedAnswer, AllocError>
+    ensures { IfOk result (λ answer. AnswersFound form (option_copied allowed.entry) text.now found
         (answered (string_bytes answer.text) answer.status)) }
 {
     match found {
-        Checked::Bad(text) => Ok(Answer {
-            text,
+        Checked::Bad(lines) => Ok(PrintedAnswer {
+            text: lines,
             status: Status::BadInput,
         }),
-        Checked::Taken(rows, _) => noted(alloc, form, allowed, &rows),
+        Checked::Taken(rows, _) => noted(alloc, form, allowed, Some(text), &rows),
     }
 }
 
@@ -140,31 +140,31 @@ fn of_text(
     form: Form,
     allowed: Option<&str>,
     text: &str,
-) -> Result<Answer, AllocError>
+) -> Result<PrintedAnswer, AllocError>
     ensures { IfOk result (λ answer. answered (string_bytes answer.text) answer.status
-        ≡ answer_of form (option_copied allowed.entry) (finding_of form text.now)) }
+        ≡ answer_of form (option_copied allowed.entry) text.now (finding_of form text.now)) }
 {
-    // Named for the prover, which else does not find the type of a row's console.
+    // Named for the prover, which otherwise cannot infer the type of a row's console.
     let _nowhere: Option<ConsoleName> = None;
     let found = check(alloc, text, form)?;
-    of_found(alloc, form, allowed, found)
+    of_found(alloc, form, allowed, text, found)
 }
 
-/// What is answered about some bytes.
+/// The answer about some bytes.
 pub(crate) fn answer_about(
     alloc: Global,
     form: Form,
     allowed: Option<&str>,
     bytes: &[u8],
-) -> Result<Answer, AllocError>
+) -> Result<PrintedAnswer, AllocError>
     ensures { IfOk result (λ answer. IsAnswer form (option_copied allowed.entry) bytes.now
         (answered (string_bytes answer.text) answer.status)) }
 {
     if bytes.len() > POLICY_LIMIT as usize {
-        return whole(alloc, form, "more than 16,777,216 bytes");
+        return whole(alloc, form, too_long());
     }
     match str::from_utf8(bytes) {
         Ok(text) => of_text(alloc, form, allowed, text),
-        Err(_) => whole(alloc, form, "not UTF-8"),
+        Err(_) => whole(alloc, form, not_utf8(bytes)),
     }
 }

@@ -3,29 +3,22 @@ ghost use Rattle.std.specs.Prelude.{◌≡◌, IfErr, IfOk, string_bytes};
 ghost use Rattle.std.specs.Io.KnownBytes.{Appends};
 ghost use Rattle.std.specs.Option.{option_copied};
 ghost use Rattle.opc_cli_failures.specs.Statuses.{IsFailure};
-ghost use Rattle.opc_cli_questions.specs.Checks.{AreFirst, IsAnswer, IsAnswered, IsReportedCheck, answered, form_of};
-ghost use Rattle.opc_cli_questions.specs.Printed.{left_in};
+ghost use Rattle.opc_cli_questions.specs.Checks.{AreFirst, IsAnswer, IsAnswered, IsReportedCheck};
+ghost use Rattle.opc_cli_questions.specs.Printed.{answered, left_in};
 
-use crate::check_answer::{POLICY_LIMIT, answer_about};
+use crate::check_answer::answer_about;
 use crate::openings::Openings;
 use crate::policy_file::paths_of;
-use crate::printing::{Answer, print};
+use crate::printing::{PrintedAnswer, print};
 use crate::streams::read_up_to;
-use opc_check::form::Form;
+use opc_check::unread::POLICY_LIMIT;
 use opc_cli_failures::failure::{Failure, Place, reported};
 use opc_cli_failures::status::Status;
-use opc_cli_words::check::PolicyCheck;
+use opc_cli_tasks::question::PolicyCheck;
 use opc_io::sink::Sink;
 use opc_terms::fault::Fault;
 use std::alloc::Global;
 use std::io::{Read, Write};
-
-/// For whom the lines are.
-pub fn form_of(json: bool) -> Form
-    ensures { result ≡ form_of json }
-{
-    if json { Form::Json } else { Form::Text }
-}
 
 /// Checks the policy file at a path, or the one on the input, and returns the status.
 pub fn answer_check<F: Openings, R: Read, W: Write, K: Sink>(
@@ -38,7 +31,7 @@ pub fn answer_check<F: Openings, R: Read, W: Write, K: Sink>(
     errors: &mut K,
 ) -> Status
     ensures { IsReportedCheck W.contents K.held K.has_failed output.old output.new errors.old errors.new
-        (form_of check.now.json) (option_copied check.now.allowed)
+        check.now.form (option_copied check.now.allowed)
         (left_in (F.holds files.now) (R.remaining input.old) policy.entry) result }
 {
     let end = checked(alloc, files, policy, check, input, output);
@@ -85,12 +78,12 @@ fn read_bytes<F: Openings, R: Read>(
 }
 
 /// What is answered about some bytes, if there is memory for it.
-fn answer_to(alloc: Global, check: &PolicyCheck<'_>, bytes: &[u8]) -> Result<Answer, Failure>
-    ensures answer { IfOk result (λ answer. IsAnswer (form_of check.now.json) (option_copied check.now.allowed)
+fn answer_to(alloc: Global, check: &PolicyCheck<'_>, bytes: &[u8]) -> Result<PrintedAnswer, Failure>
+    ensures answer { IfOk result (λ answer. IsAnswer check.now.form (option_copied check.now.allowed)
         bytes.now (answered (string_bytes answer.text) answer.status)) }
     ensures fault { IfErr result (λ failure. IsFailure failure.fault) }
 {
-    match answer_about(alloc, form_of(check.json), check.allowed, bytes) {
+    match answer_about(alloc, check.form, check.allowed, bytes) {
         Ok(answer) => Ok(answer),
         Err(_) => Err(Failure::from(Fault::NoMemory)),
     }
@@ -104,7 +97,7 @@ fn checked<F: Openings, R: Read, W: Write>(
     input: &mut R,
     output: &mut W,
 ) -> Result<Status, Failure>
-    ensures { IsAnswered W.contents output.old output.new (form_of check.now.json) (option_copied check.now.allowed)
+    ensures { IsAnswered W.contents output.old output.new check.now.form (option_copied check.now.allowed)
         (left_in (F.holds files.now) (R.remaining input.old) policy.entry) result }
 {
     let bytes = read_bytes(alloc, files, policy, input)?;

@@ -22,7 +22,7 @@ fn kind_of(unit: &Option<UnitRow>) -> UnitKindAt
     }
 }
 
-/// What the unit is that a command names, if what the command needs depends on that.
+/// The kind of the unit that a command names, if what the command needs depends on it.
 fn kind_named<T: Tables>(tables: &mut T, command: &Command<'_>) -> Result<UnitKindAt, StoreFault>
     ensures { Loads T.meaning tables.old tables.new result (λ s kind. kind ≡ kind_named s.board command.now) }
 {
@@ -58,6 +58,7 @@ pub(crate) fn kind_on<T: Tables>(
 {
     match given {
         UnitKindAt::Absent => kind_in(tables, text),
+        // A kind that is given counts, whatever the board has.
         _ => Ok(given),
     }
 }

@@ -12,7 +12,7 @@ use std::io::Write;
 
 /// The text of an answer, and the status.
 #[derive(Drop)]
-pub struct Answer {
+pub struct PrintedAnswer {
     pub text: String,
     pub status: Status,
 }
@@ -27,7 +27,7 @@ pub(crate) fn nothing_text(form: Form) -> &'static str
     }
 }
 
-/// The failure if there is no memory.
+/// The failure if an allocation fails.
 pub(crate) fn no_memory() -> Failure
     ensures { IsFailure result.fault }
 {
@@ -46,7 +46,7 @@ pub fn print_text<W: Write>(text: &str, output: &mut W) -> Result<(), Failure>
 }
 
 /// Prints an answer, and returns its status.
-pub fn print<W: Write>(answer: &Answer, output: &mut W) -> Result<Status, Failure>
+pub fn print<W: Write>(answer: &PrintedAnswer, output: &mut W) -> Result<Status, Failure>
     ensures text { IfOk result (λ _. Appends (W.contents output.old) (W.contents output.new)
         (string_bytes answer.now.text)) }
     ensures status { IfOk result (λ status. status ≡ answer.now.status) }

@@ -11,7 +11,7 @@ use std::io::{ErrorKind, Read};
 /// The most bytes of one read.
 const BLOCK: usize = 8192;
 
-/// How often a read that a signal cut short is tried again.
+/// How often a read that a signal interrupts is tried again.
 const TRIES: u32 = 1_000_000;
 
 /// Reads once, and again if a signal came first.

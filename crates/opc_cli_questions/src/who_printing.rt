@@ -1,18 +1,28 @@
 //! The lines of an answer, part by part: each is made and written before the next one.
-ghost use Rattle.std.specs.Prelude.{◌≡◌, ◌+◌, ◌++◌, IfErr, IfOk, OnOk, count_by, option_map, string_bytes};
+ghost use Rattle.std.specs.Prelude.{◌≡◌, ◌+◌, ◌++◌, IfErr, IfOk, OnOk, count_by, string_bytes};
 ghost use Rattle.std.specs.Io.KnownBytes.{Appends};
 ghost use Rattle.opc_cli_failures.specs.Statuses.{IsFailure};
 ghost use Rattle.opc_answers.specs.Who.{HasDecider, consoles_of, raised_of, raised_there, users_of};
-ghost use Rattle.opc_answers.specs.Texts.{cannot_log_on, console_share_of, counts_of, is_undecided, share_of};
+ghost use Rattle.opc_answers.specs.Texts.{
+  cannot_log_on,
+  console_counts,
+  counts_of,
+  is_shown_nothing,
+  is_undecided,
+  share_of,
+};
 ghost use Rattle.opc_cli_questions.specs.Questions.{who_shown};
 ghost use Rattle.opc_cli_questions.specs.WhoPrinted.{beginning, consoles_shown, ending, users_shown};
 
 use crate::printing::{no_memory, print_text};
+use opc_answers::beginning::beginning_text;
 use opc_answers::consoles::ConsoleLine;
-use opc_answers::counts::{Counts, Share, count_no_logon, count_undecided, counts_text};
-use opc_answers::json::{consoles_json, question_json, users_json};
+use opc_answers::counts::{
+    ConsoleCounts, Counts, Share, count_hidden, count_no_logon, count_undecided, counts_text,
+};
+use opc_answers::json::{beginning_json, consoles_json, users_json};
 use opc_answers::lines::UserLine;
-use opc_answers::text::{beginning_text, console_lines_text, users_text};
+use opc_answers::text::{console_lines_text, users_text};
 use opc_answers::who::Who;
 use opc_board::rows::ConsoleRow;
 use opc_check::form::Form;
@@ -26,7 +36,7 @@ fn beginning(alloc: Global, form: Form, who: &Who) -> Result<String, AllocError>
 {
     match form {
         Form::Text => beginning_text(alloc, who),
-        Form::Json => question_json(alloc, who),
+        Form::Json => beginning_json(alloc, who),
     }
 }
 
@@ -67,7 +77,7 @@ fn ending(alloc: Global, form: Form, counts: &Counts) -> Result<String, AllocErr
     }
 }
 
-/// Prints what is asked about, and what decides.
+/// Prints the subject of the question, and what decides.
 fn print_beginning<W: Write>(
     alloc: Global,
     form: Form,
@@ -101,15 +111,16 @@ fn print_users<W: Write>(
     print_text(text.as_str(), output)
 }
 
-/// How many of the users may, of how many nothing is said, and how many do not get on.
+/// How many of the users may, of how many nothing is said, how many cannot log on, and how many are shown nothing.
 #[derive(Clone, Copy)]
 struct UserCounts {
     share: Share,
     undecided: usize,
     no_logon: usize,
+    hidden: usize,
 }
 
-/// Prints what is said of each user, and counts.
+/// Prints the lines of the users, and counts.
 fn print_all_users<W: Write>(
     alloc: Global,
     form: Form,
@@ -123,6 +134,7 @@ fn print_all_users<W: Write>(
       share = share_of (users_of who.now);
       undecided = count_by is_undecided (users_of who.now);
       no_logon = count_by cannot_log_on (users_of who.now);
+      hidden = count_by is_shown_nothing (users_of who.now);
     }) }
     ensures fails { IfErr result (λ failure. IsFailure failure.fault) }
 {
@@ -135,10 +147,11 @@ fn print_all_users<W: Write>(
         share: Share::of_users(lines),
         undecided: count_undecided(lines),
         no_logon: count_no_logon(lines),
+        hidden: count_hidden(lines),
     })
 }
 
-/// Prints what is said of users at one console alone, and counts.
+/// Prints the lines of users at one console alone, and counts.
 fn print_raised_there<W: Write>(
     alloc: Global,
     form: Form,
@@ -199,28 +212,18 @@ fn print_raised<W: Write>(
     Ok(share)
 }
 
-/// How many of some consoles may.
-fn console_share(lines: &Option<Rows<ConsoleLine>>) -> Option<Share>
-    ensures { result ≡ option_map console_share_of lines.now }
-{
-    match lines {
-        Some(lines) => Some(Share::of_consoles(lines.as_slice())),
-        None => None,
-    }
-}
-
-/// Prints what is said of each console, if a command is asked about, and counts.
+/// Prints the lines of the consoles, if the question is about a command, and counts.
 fn print_consoles<W: Write>(
     alloc: Global,
     form: Form,
     allowed: bool,
     who: &Who,
     output: &mut W,
-) -> Result<Option<Share>, Failure>
+) -> Result<ConsoleCounts, Failure>
     requires { HasDecider who.now }
     ensures text { IfOk result (λ _. Appends (W.contents output.old) (W.contents output.new)
         (consoles_shown form allowed (consoles_of who.now))) }
-    ensures share { IfOk result (λ share. share ≡ option_map console_share_of (consoles_of who.now)) }
+    ensures counts { IfOk result (λ counts. counts ≡ console_counts who.now.wanted (consoles_of who.now)) }
     ensures fails { IfErr result (λ failure. IsFailure failure.fault) }
 {
     let Ok(lines) = who.consoles(alloc) else {
@@ -230,7 +233,7 @@ fn print_consoles<W: Write>(
         return Err(no_memory());
     };
     print_text(text.as_str(), output)?;
-    Ok(console_share(&lines))
+    Ok(ConsoleCounts::of(&who.wanted, &lines))
 }
 
 /// Prints how many may, if the answer is text.
@@ -272,13 +275,14 @@ fn print_lines<W: Write>(
         users: users.share,
         undecided: users.undecided,
         no_logon: users.no_logon,
+        hidden: users.hidden,
         raised,
         consoles,
     })
 }
 
-/// Prints who may, as text or as JSON. Of the lines at one console alone those of one console are in memory, so that it
-/// takes no more than users and consoles do, however many lines there are.
+/// Prints who may, as text or as JSON. Of the lines at one console alone those of one console are in memory, so that
+/// they take no more memory than users and consoles do, however many lines there are.
 pub(crate) fn print_who<W: Write>(
     alloc: Global,
     form: Form,

@@ -1,5 +1,5 @@
 use Rattle.std.proofs.Common.{subst, sym}
-use Rattle.std.proofs.lemmas.Result.{IfErr-weaker, IfOk-weaker}
+use Rattle.std.proofs.lemmas.Result.{err_from_is_err_and}
 use Rattle.opc_cli_questions.proofs.Files.{AreFirst, are_read, unread}
 use Rattle.opc_cli_questions.proofs.policy_file.read_rows.Goals as goal
 
@@ -7,10 +7,11 @@ pub returns-clause-rows : goal.returns-clause-rows
 returns-clause-rows g c =
     let left = g.R.Read.remaining c.args.input.now in
     let first = subst (AreFirst left) (sym c.deref.ensures.value) c.in-Ok.ensures.bytes in
-    IfOk-weaker c.rows_in.result _ _ (λ rows. are_read left c.deref.result.now rows.items first) c.rows_in.ensures.rows
+    are_read left c.deref.result.now _ first c.in_ok-rows.ensures.rows
 
-pub returns-clause-fault : goal.returns-clause-fault
-returns-clause-fault g c =
+pub returns-in_err-rows-clause-fault : goal.returns-in_err-rows-clause-fault
+returns-in_err-rows-clause-fault g c =
     let left = g.R.Read.remaining c.args.input.now in
     let first = subst (AreFirst left) (sym c.deref.ensures.value) c.in-Ok.ensures.bytes in
-    IfErr-weaker c.rows_in.result _ _ (λ failure. unread left c.deref.result.now failure.fault first) c.rows_in.ensures.fault
+    let err = err_from_is_err_and c.from_residual.result c.from_residual.ensures.1 in
+    rw (err.1, err.2) (unread left c.deref.result.now _ first c.in_err-rows.ensures.fault)

@@ -1,0 +1,14 @@
+use Rattle.std.proofs.Common.{[], None, Some, arith, rules}
+use Rattle.opc_cli_questions.specs.Asking.{user_in}
+use Rattle.opc_cli_questions.proofs.Named.{more_names}
+use Rattle.opc_cli_questions.proofs.asking.users_in.Goals.{in-Some+in_ok-push, in_default}
+use Rattle.opc_cli_questions.proofs.asking.users_in.Goals as goal
+
+pub loop-row-preserved : goal.loop-row-preserved
+loop-row-preserved c =
+    let next = more_names user_in (λ name. name.now) c.args.rows.now c.loop-row.row-index c.row-item.result
+    c.user_in.result c.loop-row.names.items (omega arith) c.row-item.is c.user_in.ensures c.loop-row.invariant in
+    elim c.match-user_in.branch [
+      | in-Some+in_ok-push w ↦ search (rules, next)
+      | in_default w ↦ search (rules, next)
+    ]

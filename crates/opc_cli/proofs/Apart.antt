@@ -70,7 +70,7 @@ same id = grind (arith, nat_tests)
 asked_there : (id : ℕ) → reply_at (with_asked id).board id ≡ Some (asked id)
 asked_there id = rw (same id) refl
 
--- ---- an answer to which both stand is neither
+-- ---- an answer in both states is neither
 
 not_both : (answer : Answer) (reported other : Answer) → (reported ≡ other → ⊥) → IsAborted answer ⊎ (answer ≡ reported)
     → IsAborted answer ⊎ (answer ≡ other) → IsAborted answer

@@ -1,4 +1,4 @@
--- What a whole work over the tables of a database file comes to, from what the files held to what they hold.
+-- The outcome of a whole operation over the tables of a database file, from what the files held to what they hold.
 use Rattle.std.proofs.Common.{◌≡◌, ◌∙◌, inl, inr, ℕ, Bool, List, Option, Some, None, Result, Ok, Err, MatchOption, refl, sym, subst, ap, false, not}
 use Rattle.std.specs.Prelude.{MatchResult, IsUtf8}
 use Rattle.std.specs.Io.KnownBytes.{Appends}
@@ -40,8 +40,8 @@ use Rattle.opc_cli_script.specs.Scripts.{bad_line, requests_in}
 use Rattle.opc_cli_program.specs.Imports.{AreTaken, IsOneStep, IsPolicyTaken, IsReported, lines_text}
 use Rattle.opc_cli_program.specs.Runs.{IsAnsweredInput, IsEndOf, IsInputRun, IsRunOfBytes}
 use Rattle.opc_cli_program.specs.Works.{IsImportNow}
-use Rattle.opc_cli_program.specs.declared.work.Work.{Work}
-use Rattle.opc_cli_words.specs.declared.import.Import.{Import as Asked}
+use Rattle.opc_cli_tasks.specs.declared.work.Work.{Work}
+use Rattle.opc_cli_tasks.specs.declared.work.Import.{Import as Asked}
 use Rattle.opc_io.specs.declared.watched.Watched.{Watched}
 use Rattle.opc_cli.specs.Works.{IsEnd}
 use Rattle.opc_cli.specs.Kept.{
@@ -69,7 +69,7 @@ without Y (Some a) is h = absurd (cc)
 
 -- ---- answers that are printed
 
--- what ended well was done, and its lines were written
+-- what succeeded was done, and its lines were written
 done_reported : {K : Type 0} (held : K → Option (List ℕ)) (has_failed : K → Bool) (a : Answer) (before written : K)
     (status : Status) → IsReported held has_failed a before written (Ok status)
     → (lines : List Line) × (rule : Option Rule) × (a ≡ answer.Done lines rule) × Appends (held before) (held written) (lines_text lines)
@@ -92,7 +92,7 @@ input_failed : (failure : Failure) → IsInputFailure failure → IsFailure fail
 input_failed failure (inl memory) = inl memory
 input_failed failure (inr it) = subst IsFailure (sym it.1.0) (streams_are_failures _)
 
--- a script ends by a fault only if there was no memory, or the output failed
+-- a script ends by a fault only if an allocation or the output failed
 script_failed : (ran : Result Status ScriptFault) (failure : Failure) → IsEndOf ran (Err failure) → IsFailure failure.fault
 script_failed (Ok status) failure ends = absurd cc
 script_failed (Err (BadLine number)) failure ends = absurd cc
@@ -209,7 +209,7 @@ module _ {D : Type 0} (g : disk.Ghosts D) where
               },
         )
 
-    -- what came of the first policy, and then of the script
+    -- the outcome of the first policy, and then of the script
     abbrev Then : (mid last : Tables) → Option (List ℕ) → (before written : Watched W) → Result Status Failure → Result Status Failure → Type 0
     Then mid last left before written end taken =
         MatchResult taken (λ _. IsAnsweredInput means held has_failed mid last left before written end)
@@ -261,7 +261,7 @@ module _ {D : Type 0} (g : disk.Ghosts D) where
           kept = subst (HoldTablesOf g files) becomes.1 (holds_last last files ends clean it.next it.represented);
         }
 
-    -- ---- each work
+    -- ---- each operation
 
     module _ {s : State} {work : Work} {left : Option (List ℕ)} {before written : Watched W}
         {end : Result Status Failure} {files : Files D}
@@ -273,7 +273,7 @@ module _ {D : Type 0} (g : disk.Ghosts D) where
       start = λ _. over.works.opening.found (over.works.sure last_sure) over.found over.holds s over.tables
 
     pub runs_are_kept : RunsAreKept g contents
-    runs_are_kept s left before written status files over =
+    runs_are_kept s script left before written status files over =
         let r = over.works in
         let answered = taken_well _ r.done.taken r.done.takes.0 r.done.runs in
         let same = subst (λ (mid : Tables). IsAnsweredInput means held has_failed mid r.last left before
@@ -281,13 +281,13 @@ module _ {D : Type 0} (g : disk.Ghosts D) where
         script_kept r.opened r.last s left before written status files r.ends over.clean (start over) same
 
     pub first_policies_are_kept : FirstPoliciesAreKept g contents
-    first_policies_are_kept s path left before written status files over =
+    first_policies_are_kept s path script left before written status files over =
         let r = over.works in
         first_kept r.opened r.done.mid r.last s left before written files r.ends over.clean
         (r.done.sure (last_sure over)) (start over) status r.done.taken r.done.takes r.done.runs
 
     pub refused_change_nothing : RefusedPoliciesChangeNothing g contents
-    refused_change_nothing s path left before written failure files over reported =
+    refused_change_nothing s path script left before written failure files over reported =
         let r = over.works in
         refused_kept r.opened r.done.mid r.last s left before written files r.ends over.clean
         (r.done.sure (last_sure over)) (start over) failure reported r.done.taken r.done.takes r.done.runs

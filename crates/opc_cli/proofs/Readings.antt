@@ -1,4 +1,4 @@
--- What is read of a file that holds tables of a state.
+-- What is read from a file that holds tables of a state.
 use Rattle.sqlite_disk.specs.declared.Disk as disk
 use Rattle.std.proofs.Common.{ℕ, List, Option, Result, refl}
 use Rattle.sqlite.specs.Files.{over_files}
@@ -7,9 +7,9 @@ use Rattle.opc_cli_failures.specs.declared.status.Status.{Status}
 use Rattle.opc_state.specs.Changes.{IsKept}
 use Rattle.opc_state.specs.State.{State}
 use Rattle.opc_store.specs.StoreTables.{RepresentsIfOpen, store_meaning}
-use Rattle.opc_cli.specs.Reads.{AccountsAreShown, AnswersAreOfTheExport, IsLeft, IsReadOver, Reading}
+use Rattle.opc_cli.specs.Reads.{AccountsAreShown, AnswersAreOfTheExport, DatabaseQuestion, IsLeft, IsReadOver}
 
-module _ {D : Type 0} (g : disk.Ghosts D) {W : Type 0} (contents : W → Option (List ℕ)) (s : State) (asked : Reading)
+module _ {D : Type 0} (g : disk.Ghosts D) {W : Type 0} (contents : W → Option (List ℕ)) (s : State) (asked : DatabaseQuestion)
     (before written : W) (end : Result Status Failure) (over : IsReadOver g contents s asked before written end)
     (kept : IsKept (store_meaning over_files) over.reads.opened over.reads.last) where
   start : RepresentsIfOpen over_files over.reads.opened s

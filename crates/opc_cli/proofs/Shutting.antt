@@ -93,7 +93,7 @@ grows s moment r (Refused fault rule) next (inr (inl full)) = same_length s next
 grows s moment r (Refused fault rule) next (inr (inr done)) =
     subst (λ (t : State). length s.account ≤ length t.account) (sym done.becomes) (refused_grows s moment r fault rule (outcome s r) done.answers)
 
--- What a request comes to has no shorter account, even if there is no number for its rows.
+-- The outcome of a request has no shorter account, even if there is no number for its rows.
 after_grows : (n : ℕ) (moment : ℕ) (r : Input) → 2 ^ 63 ≤ n → n ≤ length (after (accounting n) moment r (outcome (accounting n) r)).account
 after_grows n moment r high =
     let s = accounting n in

@@ -1,4 +1,4 @@
--- Scripts and services over a gate, each with the number that a program ends with.
+-- Scripts and services over a gate, each with the number with which a program ends.
 use Rattle.std.specs.Prelude.{◌≡◌, ℕ, Bool, true, List, Option, None, Result, Ok, Err, if◌then◌else◌}
 use Rattle.opc_state.specs.Meaning.{Meaning}
 use Rattle.opc_cli_failures.specs.declared.status.Status.{Status}
@@ -13,7 +13,7 @@ use Rattle.opc_http_requests.specs.declared.origins.Origins.{Origins}
 use Rattle.opc_http_serve.specs.declared.arrival.ServeFault.{ServeFault}
 use Rattle.opc_http_serve.specs.Handled.{AreHandled}
 
--- The status of a script: what its answers come to; or that a line was bad, or that memory was refused or the output
+-- The status of a script: the outcome of its answers; or that a line was bad, or that an allocation or the output
 -- failed.
 abbrev pub status_of_script : Result Status ScriptFault → Status
 status_of_script (Ok status) = status
@@ -36,7 +36,7 @@ module _ {T : Type 0} (m : Meaning T) (old new : T) where
     pub failed : has_failed written ≡ (if is_cut_by_output ran then true else has_failed before)
     pub ends : number ≡ number_of (status_of_script ran)
 
-  -- This many clients were served, each waited for as long as it takes, or fewer; and this is the number of its status.
+  -- This many clients were served, without a time limit, or fewer; and this is the number of its status.
   pub record IsService {C K : Type 0} (origins : Origins) (source : ClientSource C K) (count number : ℕ) : Type 0 where
     pub served : Result (Unit {0}) ServeFault
     pub handled : AreHandled origins m source.link source.comes None old new count served

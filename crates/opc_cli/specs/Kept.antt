@@ -1,4 +1,4 @@
--- What a whole work over the tables of a database file comes to, from what the files held to what they hold.
+-- The outcome of a whole operation over the tables of a database file, from what the files held to what they hold.
 use Rattle.std.specs.Prelude.{◌≡◌, ◌⊎◌, ℕ, Bool, false, List, Option, Some, None, Result, Ok, Err, IsUtf8}
 use Rattle.std.specs.Borrow.{Bor}
 use Rattle.std.specs.Io.KnownBytes.{Appends}
@@ -32,9 +32,10 @@ use Rattle.opc_cli_script.specs.Transcripts.{transcript}
 use Rattle.opc_cli_program.specs.Imports.{IsWritten, exported, lines_text}
 use Rattle.opc_cli_program.specs.Runs.{AreScriptBytes}
 use Rattle.opc_io.specs.declared.watched.Watched.{Watched}
-use Rattle.opc_cli_words.specs.declared.import.Import.{Import as Asked}
-use Rattle.opc_cli_program.specs.declared.work.Work.{Work}
-use Rattle.opc_cli_program.specs.declared.work.Work.TheVariants.{Run, Import, Export}
+use Rattle.opc_cli_tasks.specs.declared.work.Import.{Import as Asked}
+use Rattle.opc_cli_tasks.specs.declared.work.Lines.TheVariants.{Script}
+use Rattle.opc_cli_tasks.specs.declared.work.Work.{Work}
+use Rattle.opc_cli_tasks.specs.declared.work.Work.TheVariants.{Run, Import, Export}
 use Rattle.opc_cli.specs.Works.{IsWorkAt}
 
 -- Why a first policy is refused: the file has none, or its rows are.
@@ -60,7 +61,7 @@ module _ {D : Type 0} (g : disk.Ghosts D) where
     pub ends : status ≡ status_of answers
     pub kept : HoldTablesOf files last
 
-  -- A script was read of what the input had left. If no line of it is bad, it was run from this state.
+  -- A script was read from what the input had left. If no line of it is bad, it was run from this state.
   abbrev pub IsKeptScript : State → (left before written : Option (List ℕ)) → Status → Files D → Type 0
   IsKeptScript s left before written status files =
       (script : List ℕ) × AreScriptBytes left script
@@ -85,7 +86,7 @@ module _ {D : Type 0} (g : disk.Ghosts D) where
     pub kept : HoldTablesOf files (after s moment r (outcome s r))
 
   module _ {W : Type 0} (contents : W → Option (List ℕ)) where
-    -- In all of these the files held tables of the state, the work was done over them, and the files were closed.
+    -- In all of these the files held tables of the state, the operation was run over them, and the files were closed.
     pub record IsWorkOver (s : State) (work : Work) (left : Option (List ℕ)) (before written : Watched W)
         (end : Result Status Failure) (files : Files D) : Type 0 where
       pub image : Image
@@ -99,28 +100,30 @@ module _ {D : Type 0} (g : disk.Ghosts D) where
     -- If a script without a bad line was run, they hold tables of the state that its requests lead to,
     abbrev pub RunsAreKept : Type 0
     RunsAreKept =
-        (s : State) (left : Option (List ℕ)) (before written : Watched W) (status : Status) (files : Files D)
-        → IsWorkOver s (Run None) left before written (Ok status) files
+        (s : State) (script : Option (Bor (List ℕ))) (left : Option (List ℕ)) (before written : Watched W)
+        (status : Status) (files : Files D)
+        → IsWorkOver s (Run None (Script script)) left before written (Ok status) files
         → IsKeptScript s left (contents before.inner) (contents written.inner) status files
 
     -- and they do the same after a first policy, which was taken before.
     abbrev pub FirstPoliciesAreKept : Type 0
     FirstPoliciesAreKept =
-        (s : State) (path : Bor (List ℕ)) (left : Option (List ℕ)) (before written : Watched W) (status : Status)
-        (files : Files D)
-        → IsWorkOver s (Run (Some path)) left before written (Ok status) files
+        (s : State) (path : Bor (List ℕ)) (script : Option (Bor (List ℕ))) (left : Option (List ℕ))
+        (before written : Watched W) (status : Status) (files : Files D)
+        → IsWorkOver s (Run (Some path) (Script script)) left before written (Ok status) files
         → IsKeptFirstRun s left (contents before.inner) (contents written.inner) status files
 
     -- If the run ends by a fault that is not of memory, the store or a device, the first policy was refused, nothing
     -- was printed, and they hold tables of the state as it was.
     abbrev pub RefusedPoliciesChangeNothing : Type 0
     RefusedPoliciesChangeNothing =
-        (s : State) (path : Bor (List ℕ)) (left : Option (List ℕ)) (before written : Watched W) (failure : Failure)
-        (files : Files D)
-        → IsWorkOver s (Run (Some path)) left before written (Err failure) files → (IsFailure failure.fault → ⊥)
+        (s : State) (path : Bor (List ℕ)) (script : Option (Bor (List ℕ))) (left : Option (List ℕ))
+        (before written : Watched W) (failure : Failure) (files : Files D)
+        → IsWorkOver s (Run (Some path) (Script script)) left before written (Err failure) files
+        → (IsFailure failure.fault → ⊥)
         → IsFirstRefused s failure.fault × (written ≡ before) × HoldTablesOf files s
 
-    -- An import at a console that ends well was done, as one request,
+    -- An import at a console that succeeds was done, as one request,
     abbrev pub ImportsAreKept : Type 0
     ImportsAreKept =
         (s : State) (import : Asked) (console : List ℕ) (left : Option (List ℕ)) (before written : Watched W)

@@ -17,24 +17,24 @@ use Rattle.opc_cli_failures.specs.declared.failure.Failure.{Failure}
 use Rattle.opc_cli_questions.specs.Printed.{IsWritten}
 use Rattle.opc_cli_program.specs.Imports.{exported}
 use Rattle.opc_cli_questions.specs.Answers.{IsAnsweredOver, exported_rows, on_board, rows_answer}
-use Rattle.opc_cli_questions.specs.declared.question.PolicyQuestion.{PolicyQuestion}
+use Rattle.opc_cli_tasks.specs.declared.question.PolicyQuestion.{PolicyQuestion}
 use Rattle.opc_import.specs.Lines.{policy_text}
-use Rattle.opc_cli.specs.declared.reading.Reading.{Reading as Borrowed}
-use Rattle.opc_cli.specs.declared.reading.Reading.TheVariants as borrowed
+use Rattle.opc_cli.specs.declared.reading.DatabaseQuestion.{DatabaseQuestion as Borrowed}
+use Rattle.opc_cli.specs.declared.reading.DatabaseQuestion.TheVariants as borrowed
 
 -- what is read: the rows of the account that a query shows, or the answer to a question about the policy
-pub data Reading : Type 0 where
-  AccountOf : Query → Reading
-  AnswerTo : PolicyQuestion → Reading
+pub data DatabaseQuestion : Type 0 where
+  AccountOf : Query → DatabaseQuestion
+  AnswerTo : PolicyQuestion → DatabaseQuestion
 
-abbrev pub reading_of : Borrowed → Reading
+abbrev pub reading_of : Borrowed → DatabaseQuestion
 reading_of (borrowed.Account query) = AccountOf query.now
 reading_of (borrowed.Answer question) = AnswerTo question.now
 
 module _ {D : Type 0} {g : disk.Ghosts D} where
-  -- What was asked for was read of tables, which were not changed, and written.
+  -- What was requested was read from tables, which were not changed, and written.
   abbrev pub IsRead : {W : Type 0} (contents : W → Option (List ℕ)) (opened last : Held (FileStore D g))
-      → (before written : W) → Result Status Failure → Reading → Type 0
+      → (before written : W) → Result Status Failure → DatabaseQuestion → Type 0
   IsRead contents opened last before written end (AccountOf query) =
       IsAccountPrinted (store_meaning over_files) contents opened last query before written end
   IsRead contents opened last before written end (AnswerTo question) =
@@ -42,7 +42,7 @@ module _ {D : Type 0} {g : disk.Ghosts D} where
 
 module _ {D : Type 0} (g : disk.Ghosts D) where
   -- What was asked for was read of the tables that were opened, and written. What was opened is let go.
-  pub record IsReadAt {W : Type 0} (contents : W → Option (List ℕ)) (image : Image) (asked : Reading)
+  pub record IsReadAt {W : Type 0} (contents : W → Option (List ℕ)) (image : Image) (asked : DatabaseQuestion)
       (before written : W) (end : Result Status Failure) : Type 0 where
     pub opened : Held (FileStore D g)
     pub last : Held (FileStore D g)
@@ -51,7 +51,8 @@ module _ {D : Type 0} (g : disk.Ghosts D) where
 
 module _ {D : Type 0} (g : disk.Ghosts D) {W : Type 0} (contents : W → Option (List ℕ)) where
   -- The files held tables of the state, and this was read of them.
-  pub record IsReadOver (s : State) (asked : Reading) (before written : W) (end : Result Status Failure) : Type 0 where
+  pub record IsReadOver (s : State) (asked : DatabaseQuestion) (before written : W)
+      (end : Result Status Failure) : Type 0 where
     pub image : Image
     pub found : Trees
     pub holds : HoldsDatabase image found
@@ -60,7 +61,7 @@ module _ {D : Type 0} (g : disk.Ghosts D) {W : Type 0} (contents : W → Option 
     pub sure : IsSure over_files reads.last
 
   -- The tables that were read represent the state that the files held.
-  abbrev pub IsLeft : (s : State) (asked : Reading) (before written : W) (end : Result Status Failure)
+  abbrev pub IsLeft : (s : State) (asked : DatabaseQuestion) (before written : W) (end : Result Status Failure)
       → IsReadOver s asked before written end → Type 0
   IsLeft s asked before written end over = RepresentsIfOpen over_files over.reads.last s
 

@@ -20,7 +20,7 @@ use Rattle.opc_store_schema.specs.Represented.{Represents, AreTablesOf}
 use Rattle.opc_store.specs.StoreTables.{IsShut, IsSure, MayLeave, RepresentsIfOpen, store_meaning}
 use Rattle.opc_store.specs.Opening.{IsOpenedAt}
 
--- A request that some state refuses: each but the event RESUME, which is answered alike in every state.
+-- A request that some state refuses: each but the event RESUME, which has the same answer in every state.
 abbrev pub MayBeRefused : Input → Type 0
 MayBeRefused (input.Event Resume) = ⊥
 MayBeRefused other = ⊤
@@ -32,7 +32,7 @@ module _ {S : Type 0} (g : Ghosts S) where
       IsSure g new → (s : State) → RepresentsIfOpen g old s
       → IsHandled (store_meaning g) old new s moment r answer
 
-  -- Closed tables stay closed, whatever is asked, and a crash leaves nothing but what it would have left before.
+  -- Closed tables stay closed, whatever the request, and a crash leaves nothing but what it would have left before.
   abbrev pub ShutTablesStay : Type 0
   ShutTablesStay =
       (old new : Held S) (moment : ℕ) (r : Input) (answer : Answer) → IsHandledOver old new moment r answer

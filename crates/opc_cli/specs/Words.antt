@@ -1,5 +1,23 @@
--- What the program does for the words of its command line, and the status that it ends with.
-use Rattle.std.specs.Prelude.{◌≡◌, ◌⊎◌, ℕ, Bool, true, false, List, Option, Some, None, Result, Ok, Err, IfErr}
+-- What the program does for the arguments of its command line, and the status with which it ends.
+use Rattle.std.specs.Prelude.{
+  ◌≡◌,
+  ◌⊎◌,
+  ◌≤◌,
+  ℕ,
+  Bool,
+  true,
+  false,
+  List,
+  Option,
+  Some,
+  None,
+  Result,
+  Ok,
+  Err,
+  IfErr,
+  IfOk,
+  option_map,
+}
 use Rattle.std.specs.Io.KnownBytes.{Appends}
 use Rattle.std.specs.Borrow.{Bor}
 use Rattle.std.specs.Option.{option_copied}
@@ -14,31 +32,39 @@ use Rattle.opc_store.specs.declared.opening.OpenFault.{OpenFault}
 use Rattle.opc_store.specs.Opening.{IsNotOpened, opening_fault}
 use Rattle.opc_io.specs.declared.watched.Watched.{Watched}
 use Rattle.opc_store.specs.Reading.{IsNotRead}
+use Rattle.opc_account.specs.Asked.{query_at}
+use Rattle.opc_account.specs.declared.asked.AskedQuery.{AskedQuery}
+use Rattle.opc_cli_commands.specs.Commands.{table_text}
 use Rattle.opc_cli_digest.specs.Answers.{IsPromptedAnswer}
 use Rattle.opc_cli_failures.specs.declared.failure.Failure.{Failure}
 use Rattle.opc_cli_failures.specs.declared.status.Status.{Status}
-use Rattle.opc_cli_failures.specs.declared.status.Status.TheVariants.{Failed}
+use Rattle.opc_cli_failures.specs.declared.status.Status.TheVariants.{Done, Failed}
 use Rattle.opc_cli_failures.specs.Printing.{IsReported}
-use Rattle.opc_cli_failures.specs.Statuses.{status_of_end}
-use Rattle.opc_cli_words.specs.declared.run.Lines.{Lines}
-use Rattle.opc_cli_words.specs.declared.run.Lines.TheVariants.{Script, Now}
-use Rattle.opc_cli_words.specs.declared.source.Source.{Source}
-use Rattle.opc_cli_words.specs.declared.source.Source.TheVariants.{PolicyFile, Database}
-use Rattle.opc_cli_words.specs.declared.words.Task.{Task}
-use Rattle.opc_cli_words.specs.declared.words.Task.TheVariants as task
+use Rattle.opc_cli_failures.specs.Statuses.{IsFailure, status_of_end}
+use Rattle.opc_http_serve.specs.declared.clock.TheConstants.{LAST_MOMENT}
+use Rattle.opc_cli_tasks.specs.declared.work.Lines.{Lines}
+use Rattle.opc_cli_tasks.specs.declared.work.Lines.TheVariants.{Script, Now}
+use Rattle.opc_cli_tasks.specs.declared.source.PolicySource.{PolicySource}
+use Rattle.opc_cli_tasks.specs.declared.source.PolicySource.TheVariants.{PolicyFile, Database}
+use Rattle.opc_cli_tasks.specs.declared.task.Task.{Task}
+use Rattle.opc_cli_tasks.specs.declared.task.Task.TheVariants as task
 use Rattle.opc_cli_words.specs.Reading.{Ask, AskForNone}
-use Rattle.opc_cli_questions.specs.Checks.{IsReportedCheck, form_of}
+use Rattle.opc_cli_program.specs.InputFiles.{AreBytesOf}
+use Rattle.opc_cli_program.specs.declared.input_file.InputFile.{InputFile}
+use Rattle.opc_cli_program.specs.declared.input_file.InputFile.TheVariants as input
+use Rattle.opc_cli_questions.specs.Checks.{IsReportedCheck}
+use Rattle.opc_cli_questions.specs.EmptyRoom.{IsEmptyRoomNoted}
 use Rattle.opc_cli_questions.specs.Printed.{IsReportedBy, left_in}
-use Rattle.opc_cli_questions.specs.Questions.{of_access, of_command, of_enquiry, question_answer}
-use Rattle.opc_cli_program.specs.declared.work.Work.{Work}
-use Rattle.opc_cli_program.specs.declared.work.Work.TheVariants as work
-use Rattle.opc_cli_questions.specs.declared.question.PolicyQuestion.{PolicyQuestion}
-use Rattle.opc_cli_questions.specs.declared.question.PolicyQuestion.TheVariants as question
-use Rattle.opc_cli.specs.Reads.{AccountOf, AnswerTo, IsReadAt, Reading}
+use Rattle.opc_cli_questions.specs.Questions.{question_answer}
+use Rattle.opc_cli_tasks.specs.declared.work.Work.{Work}
+use Rattle.opc_cli_tasks.specs.declared.work.Work.TheVariants as work
+use Rattle.opc_cli_tasks.specs.declared.question.PolicyQuestion.{PolicyQuestion}
+use Rattle.opc_cli_tasks.specs.declared.question.PolicyQuestion.TheVariants as question
+use Rattle.opc_cli.specs.Reads.{AccountOf, AnswerTo, DatabaseQuestion, IsReadAt}
 use Rattle.opc_cli.specs.Works.{AreLinesInMemory, IsRunInMemory, IsWorkAt}
 use Rattle.opc_cli.specs.Made.{made_line}
 
--- the status of a work over a file: that of its end, or a failure if the file was not closed
+-- the status of an operation over a file: that of its end, or a failure if the file was not closed
 abbrev pub status_of_work : {A B : Type 0} → Result Status Failure → (closed : Result A B) → Status
 status_of_work end (Ok files) = status_of_end end
 status_of_work end (Err kept) = Failed
@@ -53,7 +79,7 @@ module _ {E : Type 0} (shown : E → Option (List ℕ)) where
   abbrev pub IsEndReported : (quiet reported : Watched E) → Result Status Failure → Type 0
   IsEndReported quiet reported end = IfErr end (λ failure. IsFaultReported quiet reported failure.fault)
 
-  -- For an export that made the tables, that was printed, unless a write failed. For any other work nothing was.
+  -- For an export that made the tables, that was printed, unless a write failed. For any other operation nothing was.
   abbrev pub IsMadeNoted : (quiet noted : Watched E) → (path : List ℕ) → Work → (are_made : Bool) → Type 0
   IsMadeNoted quiet noted path work.Export true = noted.failed ≡ false
       → Appends (shown quiet.inner) (shown noted.inner) (made_line path)
@@ -77,6 +103,8 @@ pub record IsDoneInMemory {W E : Type 0} (contents : W → Option (List ℕ)) (s
       before written end
   pub status_is : status ≡ status_of_end end
   pub end_reported : IsEndReported shown quiet reported end
+  pub empty_noted : IfOk end (IsEmptyRoomNoted (λ (e : Watched E). shown e.inner) (λ (e : Watched E). e.failed) quiet
+      reported policy)
 
 -- Or the lines on its input were answered over such tables.
 pub record AreLinesDoneInMemory {W E : Type 0} (contents : W → Option (List ℕ)) (shown : E → Option (List ℕ))
@@ -87,13 +115,38 @@ pub record AreLinesDoneInMemory {W E : Type 0} (contents : W → Option (List �
       (λ path. None) policy left before written end
   pub status_is : status ≡ status_of_end end
   pub end_reported : IsEndReported shown quiet reported end
+  pub empty_noted : IfOk end (IsEmptyRoomNoted (λ (e : Watched E). shown e.inner) (λ (e : Watched E). e.failed) quiet
+      reported policy)
 
--- Of a database file that is read.
+-- Either, over tables in memory.
+abbrev pub IsInMemory : {W E : Type 0} → (contents : W → Option (List ℕ)) → (shown : E → Option (List ℕ))
+    → (left : Option (List ℕ)) → (before written : Watched W) → (quiet reported : Watched E) → Status
+    → (policy : Option (Bor (List ℕ))) → Lines → Type 0
+IsInMemory contents shown left before written quiet reported status policy (Script file) =
+    IsDoneInMemory contents shown left before written quiet reported status policy
+IsInMemory contents shown left before written quiet reported status policy (Now console) =
+    AreLinesDoneInMemory contents shown left before written quiet reported status console policy
+
+-- The table of commands was printed, or an allocation or the output failed.
+abbrev pub IsTablePrinted : {W : Type 0} → (contents : W → Option (List ℕ)) → (before written : Watched W)
+    → Result Status Failure → Type 0
+IsTablePrinted contents before written (Ok status) =
+    (status ≡ Done) × Appends (contents before.inner) (contents written.inner) table_text
+IsTablePrinted contents before written (Err failure) = IsFailure failure.fault
+
+pub record AreCommandsListed {W E : Type 0} (contents : W → Option (List ℕ)) (shown : E → Option (List ℕ))
+    (before written : Watched W) (quiet reported : Watched E) (status : Status) : Type 0 where
+  pub end : Result Status Failure
+  pub printed : IsTablePrinted contents before written end
+  pub status_is : status ≡ status_of_end end
+  pub end_reported : IsEndReported shown quiet reported end
+
+-- For a database file that is read.
 module _ {D : Type 0} (g : disk.Ghosts D) (is_fresh : Bool → D → Type 0) (image : Image) {W E : Type 0}
     (contents : W → Option (List ℕ)) (shown : E → Option (List ℕ)) (before written : Watched W)
     (quiet reported : Watched E) (status : Status) where
   -- The file was opened to be read, and what is asked for was read of it and written.
-  pub record IsReadDone (asked : Reading) : Type 0 where
+  pub record IsReadDone (asked : DatabaseQuestion) : Type 0 where
     pub end : Result Status Failure
     pub done : IsReadAt g contents image asked before.inner written.inner end
     pub status_is : status ≡ status_of_end end
@@ -107,8 +160,28 @@ module _ {D : Type 0} (g : disk.Ghosts D) (is_fresh : Bool → D → Type 0) (im
     pub status_is : status ≡ Failed
     pub fault_reported : IsFaultReported shown quiet reported (opening_fault fault)
 
-  abbrev pub IsReadInFile : Reading → Type 0
+  abbrev pub IsReadInFile : DatabaseQuestion → Type 0
   IsReadInFile asked = IsReadDone asked ⊎ IsUnread
+
+module _ {W E : Type 0} (shown : E → Option (List ℕ)) (before written : Watched W) (quiet reported : Watched E)
+    (status : Status) where
+  -- What comes before a task failed, and nothing was done or written.
+  pub record IsNotStarted : Type 0 where
+    pub fault : Fault
+    pub failure : IsFailure fault
+    pub silent : written ≡ before
+    pub status_is : status ≡ Failed
+    pub fault_reported : IsFaultReported shown quiet reported fault
+
+module _ {D : Type 0} (g : disk.Ghosts D) (is_fresh : Bool → D → Type 0) (image : Image) {W E : Type 0}
+    (contents : W → Option (List ℕ)) (shown : E → Option (List ℕ)) (before written : Watched W)
+    (quiet reported : Watched E) (status : Status) where
+  -- The clock failed, or the query was read as it is at the time that the clock showed.
+  abbrev pub IsAccountDone : AskedQuery → Type 0
+  IsAccountDone asked = IsNotStarted shown before written quiet reported status
+      ⊎ ((now : ℕ) × (now ≤ LAST_MOMENT)
+      × IsReadInFile g is_fresh image contents shown before written quiet reported status
+      (AccountOf (query_at now asked)))
 
 -- A question about a policy is answered by a policy file, which has this left.
 module _ {W E : Type 0} (contents : W → Option (List ℕ)) (shown : E → Option (List ℕ)) (before written : Watched W)
@@ -119,7 +192,7 @@ module _ {W E : Type 0} (contents : W → Option (List ℕ)) (shown : E → Opti
       written.inner quiet reported (question_answer ask) left status
   IsAnsweredByFile (question.Check q) left =
       IsReportedCheck contents (λ (e : Watched E). shown e.inner) (λ (e : Watched E). e.failed) before.inner
-      written.inner quiet reported (form_of q.json) (option_copied q.allowed) left status
+      written.inner quiet reported q.form (option_copied q.allowed) left status
 
 -- `image` is what a database file holds.
 module _ {D : Type 0} (g : disk.Ghosts D) (is_fresh : Bool → D → Type 0) (image : Image) {W E : Type 0}
@@ -127,17 +200,17 @@ module _ {D : Type 0} (g : disk.Ghosts D) (is_fresh : Bool → D → Type 0) (im
     (quiet reported : Watched E) (status : Status) where
   -- A question about a policy was answered from its source: by the policy file at a path, by that on the input, or by
   -- the database.
-  abbrev pub IsAnsweredFrom : Source → PolicyQuestion → Type 0
+  abbrev pub IsAnsweredFrom : PolicySource → PolicyQuestion → Type 0
   IsAnsweredFrom (PolicyFile policy) asked =
       IsAnsweredByFile contents shown before written quiet reported status asked (left_in (λ path. None) left policy)
   IsAnsweredFrom (Database path) asked =
       IsReadInFile g is_fresh image contents shown before written quiet reported status (AnswerTo asked)
 
--- Of a database file: `image` is what it holds at first.
+-- For a database file: `image` is what it holds at first.
 module _ {D : Type 0} (g : disk.Ghosts D) (is_fresh : Bool → D → Type 0) (image : Image) {W E : Type 0}
     (contents : W → Option (List ℕ)) (shown : E → Option (List ℕ)) (left : Option (List ℕ)) (before written : Watched W)
     (quiet reported : Watched E) (status : Status) where
-  -- The file was opened, the work done over its tables, and the file closed, or not. An export that made the tables
+  -- The file was opened, the operation run over its tables, and the file closed, or not. An export that made the tables
   -- reports that first.
   pub record IsDoneInFile (path : List ℕ) (work : Work) : Type 0 where
     pub end : Result Status Failure
@@ -158,7 +231,7 @@ module _ {D : Type 0} (g : disk.Ghosts D) (is_fresh : Bool → D → Type 0) (im
     pub status_is : status ≡ Failed
     pub fault_reported : IsFaultReported shown quiet reported (opening_fault fault)
 
-  -- The digest of the password on the input was printed, or not; on a terminal it was said what is read.
+  -- The digest of the password on the input was printed, or not; on a terminal, the prompt was printed.
   abbrev pub IsDigestAnswered : Type 0
   IsDigestAnswered = (is_terminal : Bool)
       × IsPromptedAnswer (λ (e : Watched E). shown e.inner) (λ (e : Watched E). e.failed) contents before.inner
@@ -167,41 +240,57 @@ module _ {D : Type 0} (g : disk.Ghosts D) (is_fresh : Bool → D → Type 0) (im
   abbrev pub IsWorkInFile : (path : List ℕ) → Work → Type 0
   IsWorkInFile path work = IsDoneInFile path work ⊎ IsNotBegun
 
-  abbrev pub IsRun : (database policy : Option (Bor (List ℕ))) → Lines → Type 0
-  IsRun (Some path) policy Script = IsWorkInFile path.now (work.Run policy)
-  IsRun (Some path) policy (Now console) = IsWorkInFile path.now (work.Lines policy console)
-  IsRun None policy Script = IsDoneInMemory contents shown left before written quiet reported status policy
-  IsRun None policy (Now console) =
-      AreLinesDoneInMemory contents shown left before written quiet reported status console policy
-
--- What the program does for its words: its works open the database file, and what is only asked is read of a copy.
+-- What the program does for its arguments: its operations open the database file, and questions read a copy.
 module _ {D C : Type 0} (g : disk.Ghosts D) (is_fresh : Bool → D → Type 0) (copies : disk.Ghosts C)
     (is_as_read : Bool → C → Type 0) (image : Image) {W E : Type 0} (contents : W → Option (List ℕ))
     (shown : E → Option (List ℕ)) (left : Option (List ℕ)) (before written : Watched W) (quiet reported : Watched E)
     (status : Status) where
-  abbrev pub IsAnswered : Source → PolicyQuestion → Type 0
+  abbrev pub IsAnswered : PolicySource → PolicyQuestion → Type 0
   IsAnswered = IsAnsweredFrom copies is_as_read image contents shown left before written quiet reported status
-
-  abbrev pub IsWorked : (path : List ℕ) → Work → Type 0
-  IsWorked = IsWorkInFile g is_fresh image contents shown left before written quiet reported status
 
   -- What a task asks for was done.
   abbrev pub IsTaskDone : Task → Type 0
-  IsTaskDone (task.Explain asked) = IsAnswered asked.source (question.Ask (of_access asked))
-  IsTaskDone (task.ExplainCommand asked) = IsAnswered asked.source (question.Ask (of_command asked))
-  IsTaskDone (task.Who enquiry) = IsAnswered enquiry.source (question.Ask (of_enquiry enquiry))
-  IsTaskDone (task.Check check) = IsAnswered check.source (question.Check check)
-  IsTaskDone (task.Account account) =
-      IsReadInFile copies is_as_read image contents shown before written quiet reported status
-      (AccountOf account.query)
+  IsTaskDone (task.Ask source asked) = IsAnswered source asked
+  IsTaskDone (task.Account path asked) =
+      IsAccountDone copies is_as_read image contents shown before written quiet reported status asked
+  IsTaskDone (task.Work path work) =
+      IsWorkInFile g is_fresh image contents shown left before written quiet reported status path.now work
+  IsTaskDone (task.InMemory policy lines) =
+      IsInMemory contents shown left before written quiet reported status policy lines
   IsTaskDone task.Digest = IsDigestAnswered g is_fresh image contents shown left before written quiet reported status
-  IsTaskDone (task.Run run) =
-      IsRun g is_fresh image contents shown left before written quiet reported status run.database run.policy run.lines
-  IsTaskDone (task.Import import) = IsWorked import.path.now (work.Import import)
-  IsTaskDone (task.Export path) = IsWorked path.now work.Export
-  IsTaskDone (task.Serve serve) = IsWorked serve.path.now (work.Serve serve)
+  IsTaskDone task.Commands = AreCommandsListed contents shown before written quiet reported status
 
-  -- What the words ask for was done; or they ask for nothing that is done, and that was reported.
+-- the script that lines name
+abbrev pub script_file : Lines → Option InputFile
+script_file (Script file) = option_map (λ path. input.Script path) file
+script_file (Now console) = None
+
+-- the file that a task reads in the place of the standard input, if it names one
+abbrev pub input_file : Task → Option InputFile
+input_file (task.Work path (work.Run policy lines)) = script_file lines
+input_file (task.Work path (work.Import import)) = option_map (λ file. input.Policy file) import.file
+input_file (task.InMemory policy lines) = script_file lines
+input_file other = None
+
+module _ {D C : Type 0} (g : disk.Ghosts D) (is_fresh : Bool → D → Type 0) (copies : disk.Ghosts C)
+    (is_as_read : Bool → C → Type 0) (image : Image) {W E : Type 0} (contents : W → Option (List ℕ))
+    (shown : E → Option (List ℕ)) (left : Option (List ℕ)) (before written : Watched W) (quiet reported : Watched E)
+    (status : Status) where
+  -- The task was done as over an input with the bytes of the file. Nothing is known about what the files of the system
+  -- hold.
+  pub record IsDoneByFile (task : Task) (file : InputFile) : Type 0 where
+    pub bytes : List ℕ
+    pub are : AreBytesOf (λ path. None) file bytes
+    pub done : IsTaskDone g is_fresh copies is_as_read image contents shown (Some bytes) before written quiet reported
+        status task
+
+  -- A task was done by what it reads: the standard input, or the file that it names in its place.
+  abbrev pub IsTaskDoneBy : Task → Option InputFile → Type 0
+  IsTaskDoneBy task None =
+      IsTaskDone g is_fresh copies is_as_read image contents shown left before written quiet reported status task
+  IsTaskDoneBy task (Some file) = IsDoneByFile task file ⊎ IsNotStarted shown before written quiet reported status
+
+  -- What the arguments ask for was done; or they ask for no task, and that was reported.
   abbrev pub AreDone : (words : List (List ℕ)) → Type 0
-  AreDone words = ((task : Task) × Ask words task × IsTaskDone task)
+  AreDone words = ((task : Task) × Ask words task × IsTaskDoneBy task (input_file task))
       ⊎ AskForNone words (λ (w : Watched W). contents w.inner) shown before written quiet reported status

@@ -1,4 +1,4 @@
--- A work over the tables of a database file, from its opening to its closing, and a run over tables in memory.
+-- An operation over the tables of a database file, from its opening to its closing, and a run over tables in memory.
 use Rattle.std.specs.Prelude.{◌≡◌, ◌⊎◌, ℕ, Bool, List, Option, None, Result, IfOk, IsErrAnd, IsTrue}
 use Rattle.std.specs.Borrow.{Bor}
 use Rattle.std.specs.declared.net.tcp.TcpListener.{TcpListener}
@@ -28,7 +28,15 @@ use Rattle.opc_io.specs.declared.watched.Watched.{Watched}
 use Rattle.opc_cli_program.specs.Lines.{AreProgramLines}
 use Rattle.opc_cli_program.specs.Runs.{IsProgramRun}
 use Rattle.opc_cli_program.specs.Works.{IsDone}
-use Rattle.opc_cli_program.specs.declared.work.Work.{Work}
+use Rattle.opc_cli_tasks.specs.declared.work.Work.{Work}
+use Rattle.opc_cli_tasks.specs.declared.work.Work.TheVariants.{Export}
+use Rattle.opc_store_file.specs.declared.site.IfMissing.{IfMissing}
+use Rattle.opc_store_file.specs.declared.site.IfMissing.TheVariants.{Make, Refuse}
+
+-- an export is refused if there is no database file; every other work makes it
+abbrev pub if_missing : Work → IfMissing
+if_missing Export = Refuse
+if_missing other = Make
 
 module _ {D : Type 0} {g : disk.Ghosts D} where
   -- What is there is what was committed last; if the files are closed, it is in the database file.
@@ -37,7 +45,7 @@ module _ {D : Type 0} {g : disk.Ghosts D} where
       (IsTrue (file_state last).is_open → (file_state last).now ≡ (file_state last).committed)
       × IfOk closed (λ files. AreClean g files.log files.db → IsCopied last files)
 
-  -- The work was done over the tables that were opened, and the file was closed over what it left. Nothing is known
+  -- The operation was run over the tables that were opened, and the file was closed over what it left. Nothing is known
   -- about what the files of the system hold, nor about what bytes come and go over its connections.
   pub record IsWorkAt {W : Type 0} (contents : W → Option (List ℕ)) (image : Image) (work : Work)
       (left : Option (List ℕ)) (before written : Watched W) (end : Result Status Failure)
@@ -51,8 +59,7 @@ module _ {D : Type 0} {g : disk.Ghosts D} where
         (λ path. None) work
     pub ends : IsEnd last closed
 
--- The program ran over new tables in memory, those of an empty state. Or there was no memory for them, and nothing was
--- run.
+-- The program ran over new tables in memory, those of an empty state. Or their allocation failed, and nothing was run.
 abbrev pub IsRunInMemory : {K : Type 0} → (K → Option (List ℕ)) → (K → Bool) → (holds : List ℕ → Option (List ℕ))
     → Option (Bor (List ℕ)) → Option (List ℕ) → (before written : K) → Result Status Failure → Type 0
 IsRunInMemory held has_failed holds policy left before written end =

@@ -1,7 +1,7 @@
-//! Why a database file is not opened, as the system reports it if it is asked for the file again.
+//! Why a database file is not opened, as the system reports it if the file is opened again.
 use opc_cli_failures::reason::Reason;
 use opc_store_file::copying::{NotCopied, copy_files};
-use opc_store_file::site::prepare;
+use opc_store_file::site::{IfMissing, prepare};
 use sqlite::Wary;
 use sqlite_std_file::OpenError;
 use std::fs::{File, OpenOptions};
@@ -22,8 +22,8 @@ const ENCODING: usize = 59;
 
 /// Why the database at this path was not opened. As after the opening itself, nothing is left behind. The words are a
 /// note beside the fault. They depend on the file and the system, so they have no clause; `tools/program` tries them.
-pub fn reason_at(rt: &HostRuntime, path: &str) -> Reason {
-    match prepare(rt, path) {
+pub fn reason_at(rt: &HostRuntime, path: &str, if_missing: IfMissing) -> Reason {
+    match prepare(rt, path, if_missing) {
         Ok(Some(site)) => {
             let reason = reason_again(rt, path);
             site.tidy(rt);
@@ -47,14 +47,14 @@ pub fn reason_to_read(rt: &HostRuntime, path: &str) -> Reason {
     }
 }
 
-/// Why a file that was read has no tables of ours: it is empty, or has tables of this version.
+/// Why a file that was read has none of our tables: it is empty, or has tables of the given version.
 pub fn reason_for_tables(rt: &HostRuntime, path: &str, version: u64) -> Reason {
     match fs::metadata(rt, path) {
         Ok(found) if found.len() <= 1 => {
             let words = "an empty database";
             Reason::System(io::Error::new(ErrorKind::Unsupported, words))
         }
-        // Any other file was read whole, and what it holds is not of ours, or not of this version.
+        // Any other file was read whole, and its tables are not ours, or of another version.
         _ => Reason::Tables(version),
     }
 }
@@ -82,7 +82,7 @@ fn reason_in(rt: &HostRuntime, path: &str) -> Reason {
     }
 }
 
-/// Why a database with this header holds no tables: it is of a kind that is not read, or the cause is unknown.
+/// Why a database with this header holds no tables: it is of a kind that cannot be read, or the cause is unknown.
 fn reason_by(header: &[u8; HEADER]) -> Reason {
     let words = if !header[GREATEST_ROOT..].starts_with(&[0; 4]) {
         "a database with auto_vacuum, which is not supported"
@@ -94,7 +94,7 @@ fn reason_by(header: &[u8; HEADER]) -> Reason {
     Reason::System(io::Error::new(ErrorKind::Unsupported, words))
 }
 
-/// The header of the file, if it begins as a database does; that of one that is empty, which may become one, is zeros.
+/// The header of the file, if it begins like a database; an empty file, which may become one, has zeros.
 fn header(rt: &HostRuntime, path: &str) -> io::Result<Option<[u8; HEADER]>> {
     let mut file = File::open(rt, path)?;
     let mut header = [0; HEADER];

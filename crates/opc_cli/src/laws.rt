@@ -1,5 +1,5 @@
-//! What a whole work over a database file comes to, and what a crash or a fault of the disk leaves at a request; each
-//! law as what a call without a body ensures.
+//! The outcome of a whole operation over a database file, and what a crash or a fault of the disk leaves at a request;
+//! each law as what a call without a body ensures.
 ghost use Rattle.opc_cli.specs.Kept.{
   ExportsLeaveTheFile,
   FirstImportsAreKept,
@@ -27,7 +27,7 @@ pub fn first_policies_are_kept<D: Disk, W: Write>()
     ensures refused { RefusedPoliciesChangeNothing D.Disk W.contents }
 {}
 
-/// An import that ends well leaves in the file the state with its rows: at a console as one request, whose lines are
+/// An import that succeeds leaves in the file the state with its rows: at a console as one request, whose lines are
 /// printed, and without one as a first policy.
 pub fn imports_are_kept<D: Disk, W: Write>()
     ensures at_console { ImportsAreKept D.Disk W.contents }
@@ -51,7 +51,7 @@ pub fn answers_are_of_the_export<D: Disk, W: Write>()
     ensures { AnswersAreOfTheExport D.Disk W.contents }
 {}
 
-/// Whatever becomes of a request, a crash, or a fault of the disk that closes the tables, leaves those of the state
+/// Whatever happens to a request, a crash, or a fault of the disk that closes the tables, leaves those of the state
 /// before it or of the state after it, as a whole, and the next opening finds that state.
 pub fn requests_are_left_whole<D: Disk>()
     ensures { RequestsAreLeftWhole D.Disk }

@@ -1,8 +1,13 @@
-//! The command line: it does what the words ask for, over the tables of a database file or in memory.
+//! The command line: it does what the arguments ask for, over the tables of a database file or in memory. Results below
+//! are enums: only the calls of this crate turn a `Status`, a `ScriptFault` or a `ServeFault` into the number for the
+//! system. An `OpenFault` is apart, since only an opening can meet another program's database.
 #![tactic(auto)]
 
+mod account;
+mod commands;
 mod database;
 pub mod file;
+mod input;
 pub mod laws;
 mod made;
 pub mod memory;
@@ -18,40 +23,44 @@ ghost use Rattle.sqlite_std_file.specs.File.{IsFresh};
 ghost use Rattle.opc_store_file.specs.Copies.{IsAsRead};
 ghost use Rattle.opc_store.specs.Opening.{opening_fault};
 ghost use Rattle.opc_cli_failures.specs.Statuses.{number_of};
-ghost use Rattle.opc_cli_words.specs.Reading.{words_after};
+ghost use Rattle.opc_cli_words.specs.Reading.{arguments, words_after};
 ghost use Rattle.opc_cli.specs.Words.{
   AreDone,
   IsMadeNoted,
+  IsTaskDone,
   IsWorkInFile,
   IsWorkReported,
   status_of_work,
 };
 
+use crate::account::show_account;
+use crate::commands::list_commands;
 use crate::database::reason_at;
-use crate::file::{Closed, EndedWork, work_at};
+use crate::file::{Closed, EndedWork, if_missing, work_at};
+use crate::input::do_by_input;
 use crate::made::report_made;
 use crate::questions::answer_from;
-use crate::reading::{Reading, read_in_file};
-use crate::run::run_over;
+use crate::run::run_without_file;
 pub use crate::script::run_script;
 pub use crate::service::serve_on;
 use opc_cli_digest::answering::answer_password;
-use opc_cli_failures::failure::{Failure, Paths, Place, reported};
+use opc_cli_failures::failure::{Failure, NO_PATHS, Paths, Place, reported};
 use opc_cli_failures::reason::Reason;
 use opc_cli_failures::status::Status;
-use opc_cli_program::work::Work;
-use opc_cli_questions::question::{Ask, PolicyQuestion};
-use opc_cli_words::serve::Address;
-use opc_cli_words::words::{Task, read_words};
+use opc_cli_tasks::task::Task;
+use opc_cli_tasks::work::{Address, Work};
+use opc_cli_words::joined::joined;
+use opc_cli_words::words::read_words;
 use opc_io::watched::Watched;
 use opc_store::opening::{NotOpened, OpenFault};
 use opc_store_file::copy::CopyFrom;
+use opc_store_file::site::IfMissing;
 use opc_terms::fault::Fault;
 use sqlite::{Error, ErrorCode, FileFrom, Start, Wary};
 use sqlite_disk::Disk;
 use std::io::{IsTerminal, Read, Write};
-/// Does what the words of a command line ask for, the first of which is the program's own name, and returns the status:
-/// 0 done, 1 refused, 2 bad words or bad input, 3 failed.
+/// Does what the arguments of a command line ask for, the first of which is the program's own name, and returns the
+/// status: 0 done, 1 refused, 2 invalid arguments or input, 3 failed.
 pub fn run_words<R: Read, W: Write, E: Write>(
     rt: &HostRuntime,
     words: &[String],
@@ -63,11 +72,11 @@ pub fn run_words<R: Read, W: Write, E: Write>(
     ensures done { (status : _) × (result ≡ number_of status)
         × AreDone ⟦<FileFrom<Wary> as Disk>⟧ IsFresh ⟦<CopyFrom<Wary> as Disk>⟧ IsAsRead
         (image_at ⟦<Wary as Start>⟧) W.contents E.contents
-        (R.remaining input.old) output.old output.new errors.old errors.new status (words_after words.now) }
+        (R.remaining input.old) output.old output.new errors.old errors.new status (arguments words.now) }
 {
     run_words_from(rt, Wary, words, input, output, errors)
 }
-/// The same, whatever the database file that the words name holds: `start` stands for that, and states what a torn
+/// The same, whatever the database file that the arguments name holds: `start` stands for that, and states what a torn
 /// write may leave.
 pub fn run_words_from<S: Start, R: Read, W: Write, E: Write>(
     rt: &HostRuntime,
@@ -80,9 +89,14 @@ pub fn run_words_from<S: Start, R: Read, W: Write, E: Write>(
     ensures most { result ≤ 3 }
     ensures done { (status : _) × (result ≡ number_of status)
         × AreDone ⟦<FileFrom<S> as Disk>⟧ IsFresh ⟦<CopyFrom<S> as Disk>⟧ IsAsRead (image_at S.Start) W.contents
-        E.contents (R.remaining input.old) output.old output.new errors.old errors.new status (words_after words.now) }
+        E.contents (R.remaining input.old) output.old output.new errors.old errors.new status (arguments words.now) }
 {
-    do_words(rt, start, words, input, output, errors).number()
+    match joined(rt.alloc(), words) {
+        Ok(words) => do_words(rt, start, &words, input, output, errors).number(),
+        Err(_) => Failure::from(Fault::NoMemory)
+            .report(&NO_PATHS, errors)
+            .number(),
+    }
 }
 
 fn do_words<S: Start, R: Read, W: Write, E: Write>(
@@ -97,69 +111,59 @@ fn do_words<S: Start, R: Read, W: Write, E: Write>(
         E.contents (R.remaining input.old) output.old output.new errors.old errors.new result (words_after words.now) }
 {
     match read_words(rt.alloc(), words, output, errors) {
-        Ok(Task::Explain(question)) => {
-            let (source, ask) = (question.source, Ask::of_access(&question));
-            let question = PolicyQuestion::Ask(ask);
-            answer_from(rt, start, source, &question, input, output, errors)
-        }
-        Ok(Task::ExplainCommand(question)) => {
-            let (source, ask) = (question.source, Ask::of_command(&question));
-            let question = PolicyQuestion::Ask(ask);
-            answer_from(rt, start, source, &question, input, output, errors)
-        }
-        Ok(Task::Who(enquiry)) => {
-            let (source, ask) = (enquiry.source, Ask::of_enquiry(&enquiry));
-            let question = PolicyQuestion::Ask(ask);
-            answer_from(rt, start, source, &question, input, output, errors)
-        }
-        Ok(Task::Check(check)) => {
-            let (source, question) = (check.source, PolicyQuestion::Check(check));
-            answer_from(rt, start, source, &question, input, output, errors)
-        }
-        Ok(Task::Account(account)) => {
-            let reading = Reading::Account(&account.query);
-            read_in_file(rt, start, account.path, &reading, output, errors)
-        }
-        Ok(Task::Digest) => {
-            let is_typed = is_typed(rt);
-            answer_password(rt.alloc(), input, is_typed, &mut output.inner, errors)
-        }
-        Ok(Task::Run(run)) => run_over(rt, start, &run, input, output, errors),
-        Ok(Task::Import(import)) => {
-            let (path, work) = (import.path, Work::Import(import));
-            work_in_file(rt, start, path, &work, input, output, errors)
-        }
-        Ok(Task::Export(path)) => {
-            work_in_file(rt, start, path, &Work::Export, input, output, errors)
-        }
-        Ok(Task::Serve(serve)) => {
-            let (path, work) = (serve.path, Work::Serve(serve));
-            work_in_file(rt, start, path, &work, input, output, errors)
-        }
+        Ok(task) => do_by_input(rt, start, &task, input, output, errors),
         Err(status) => status,
     }
 }
-/// Whether somebody types at a terminal and reads the messages there. No clause can state that.
+/// Does a task. The input is what the task reads in the place of the standard input, if it names a file for that.
+fn do_task<S: Start, R: Read, W: Write, E: Write>(
+    rt: &HostRuntime,
+    start: S,
+    task: &Task<'_>,
+    input: &mut R,
+    output: &mut Watched<W>,
+    errors: &mut Watched<E>,
+) -> Status
+    ensures { IsTaskDone ⟦<FileFrom<S> as Disk>⟧ IsFresh ⟦<CopyFrom<S> as Disk>⟧ IsAsRead (image_at S.Start) W.contents
+        E.contents (R.remaining input.old) output.old output.new errors.old errors.new result task.now }
+{
+    match task {
+        Task::Ask(source, question) => {
+            answer_from(rt, start, *source, question, input, output, errors)
+        }
+        Task::Account(path, asked) => show_account(rt, start, path, asked, output, errors),
+        Task::Work(path, work) => work_in_file(rt, start, path, work, input, output, errors),
+        Task::InMemory { policy, lines } => {
+            run_without_file(rt, *policy, lines, input, output, errors)
+        }
+        Task::Digest => {
+            let is_typed = is_typed(rt);
+            answer_password(rt.alloc(), input, is_typed, &mut output.inner, errors)
+        }
+        Task::Commands => list_commands(rt.alloc(), output, errors),
+    }
+}
+/// Whether the input is a terminal and the messages appear there. No clause can state that.
 fn is_typed(rt: &HostRuntime) -> bool {
     rt.stdin().is_terminal() && rt.stderr().is_terminal()
 }
-/// The Unix socket at which a work listens.
+/// The Unix socket at which an operation listens.
 fn socket_of<'a>(work: &Work<'a>) -> Option<&'a str> {
     match work {
         Work::Serve(serve) => match serve.address {
             Address::Socket { path, .. } => Some(path),
             Address::Port(_) => None,
         },
-        // No other work listens.
+        // No other operation listens.
         _ => None,
     }
 }
-/// The files that are named, if a work is done over the database file at a path.
+/// The files that are named, if an operation is run over the database file at a path.
 fn paths_of<'a>(path: &'a str, work: &Work<'a>) -> Paths<'a> {
     let policy = match work {
-        Work::Run(policy) | Work::Lines(policy, _) => *policy,
-        // Only a run reads a policy file of its own. An import reads its rows from the input.
-        _ => None,
+        Work::Run { policy, .. } => *policy,
+        Work::Import(import) => import.file,
+        Work::Export | Work::Serve(_) => None,
     };
     Paths {
         database: Some(path),
@@ -167,9 +171,8 @@ fn paths_of<'a>(path: &'a str, work: &Work<'a>) -> Paths<'a> {
         socket: socket_of(work),
     }
 }
-/// Does a work over the tables of the database file at a path, which is made if it is not there. An export that made
-/// the tables reports that.
-pub(crate) fn work_in_file<S: Start, R: Read, W: Write, E: Write>(
+/// Does a work over the tables of the database file at a path. An export that made the tables reports that.
+fn work_in_file<S: Start, R: Read, W: Write, E: Write>(
     rt: &HostRuntime,
     start: S,
     path: &str,
@@ -192,13 +195,13 @@ pub(crate) fn work_in_file<S: Start, R: Read, W: Write, E: Write>(
             ended(end, closed, &paths_of(path, work), errors)
         }
         Err(refused) => {
-            let failure = not_opened(rt, path, refused);
+            let failure = not_opened(rt, path, if_missing(work), refused);
             reported(Err(failure), &paths_of(path, work), errors)
         }
     }
 }
 /// Reports that an export made the tables: the policy that it writes is that of a new database, so the path may be
-/// mistyped.
+/// another one than was meant.
 fn note_made<E: Write>(path: &str, work: &Work<'_>, are_made: bool, errors: &mut Watched<E>)
     ensures noted { IsMadeNoted E.contents errors.old errors.new path.now work.now are_made }
     ensures kept { errors.new.failed ≡ false → errors.old.failed ≡ false }
@@ -209,10 +212,10 @@ fn note_made<E: Write>(path: &str, work: &Work<'_>, are_made: bool, errors: &mut
                 report_made(path, errors);
             }
         }
-        Work::Run(_) | Work::Lines(..) | Work::Import(_) | Work::Serve(_) => {}
+        Work::Run { .. } | Work::Import(_) | Work::Serve(_) => {}
     }
 }
-/// Reports what a work over a file came to, and then why the file was not closed, if it was not.
+/// Reports the outcome of an operation over a file, and then why the file was not closed, if it was not.
 fn ended<S: Start, E: Write>(
     end: Result<Status, Failure>,
     closed: Closed<S>,
@@ -235,7 +238,7 @@ fn of_database(fault: Fault, reason: Reason) -> Failure
 {
     Failure::of(fault, Place::Database, reason)
 }
-/// The last commit was not put into the database file. What was acknowledged is safe there, too.
+/// The last commit was not checkpointed. What was acknowledged is safe nevertheless.
 fn not_closed(error: Error) -> Failure
     ensures { result.fault ≡ Fault.Store }
 {
@@ -247,14 +250,14 @@ fn not_closed(error: Error) -> Failure
     of_database(Fault::Store, reason)
 }
 
-fn not_opened(rt: &HostRuntime, path: &str, refused: NotOpened) -> Failure
+fn not_opened(rt: &HostRuntime, path: &str, if_missing: IfMissing, refused: NotOpened) -> Failure
     ensures { result.fault ≡ opening_fault refused.fault }
 {
     match refused.fault {
         OpenFault::NoMemory => Failure::from(Fault::NoMemory),
         OpenFault::Store if refused.is_full => of_database(Fault::Store, Reason::DiskFull),
         // The store has one fault for every other failure below it, so the file is opened once more to learn why.
-        OpenFault::Store => of_database(Fault::Store, reason_at(rt, path)),
+        OpenFault::Store => of_database(Fault::Store, reason_at(rt, path, if_missing)),
         OpenFault::NotOurs(version) => {
             of_database(Fault::from(refused.fault), Reason::Tables(version))
         }

@@ -5,12 +5,12 @@ ghost use Rattle.opc_store_file.specs.Copies.{IsAsRead};
 ghost use Rattle.opc_cli_questions.specs.Printed.{left_in};
 ghost use Rattle.opc_cli.specs.Words.{IsAnsweredByFile, IsAnsweredFrom};
 
-use crate::reading::{Reading, read_in_file};
+use crate::reading::{DatabaseQuestion, read_in_file};
 use opc_cli_failures::status::Status;
 use opc_cli_questions::answer::answer_question;
 use opc_cli_questions::checking::answer_check;
-use opc_cli_questions::question::PolicyQuestion;
-use opc_cli_words::source::Source;
+use opc_cli_tasks::question::PolicyQuestion;
+use opc_cli_tasks::source::PolicySource;
 use opc_io::watched::Watched;
 use opc_store_file::copy::CopyFrom;
 use sqlite::Start;
@@ -21,7 +21,7 @@ use std::io::{Read, Write};
 pub(crate) fn answer_from<S: Start, R: Read, W: Write, E: Write>(
     rt: &HostRuntime,
     start: S,
-    source: Source<'_>,
+    source: PolicySource<'_>,
     question: &PolicyQuestion<'_>,
     input: &mut R,
     output: &mut Watched<W>,
@@ -31,9 +31,10 @@ pub(crate) fn answer_from<S: Start, R: Read, W: Write, E: Write>(
         (R.remaining input.old) output.old output.new errors.old errors.new result source.entry question.now }
 {
     match source {
-        Source::PolicyFile(policy) => answer_by(rt, policy, question, input, output, errors),
-        Source::Database(path) => {
-            read_in_file(rt, start, path, &Reading::Answer(question), output, errors)
+        PolicySource::PolicyFile(policy) => answer_by(rt, policy, question, input, output, errors),
+        PolicySource::Database(path) => {
+            let reading = DatabaseQuestion::Answer(question);
+            read_in_file(rt, start, path, &reading, output, errors)
         }
     }
 }

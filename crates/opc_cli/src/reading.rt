@@ -14,7 +14,7 @@ use opc_account::query::Query;
 use opc_cli_failures::failure::{Failure, Paths, reported};
 use opc_cli_failures::status::Status;
 use opc_cli_questions::answering::answer_on;
-use opc_cli_questions::question::PolicyQuestion;
+use opc_cli_tasks::question::PolicyQuestion;
 use opc_io::watched::Watched;
 use opc_store::opening::{NotOpened, OpenFault};
 use opc_store::store::Store;
@@ -25,22 +25,22 @@ use sqlite_disk::Disk;
 use std::alloc::Global;
 use std::io::Write;
 
-/// What is asked of a database file that is only read.
+/// A query of a database file that is only read.
 #[derive(Clone, Copy)]
-pub enum Reading<'a> {
+pub enum DatabaseQuestion<'a> {
     /// The rows of its account that a query shows.
     Account(&'a Query<'a>),
     /// The answer to a question about its policy.
     Answer(&'a PolicyQuestion<'a>),
 }
 
-/// Opens the database file at a path to read it, and prints what is asked. `start` stands for what the files hold.
-/// Returns what that came to.
+/// Opens the database file at a path to read it, and prints what the query asks for. `start` stands for what the files
+/// hold. Returns the outcome.
 pub fn read_at<S: Start, W: Write>(
     rt: &HostRuntime,
     path: &str,
     start: S,
-    reading: &Reading<'_>,
+    reading: &DatabaseQuestion<'_>,
     output: &mut W,
 ) -> Result<Result<Status, Failure>, NotOpened>
     ensures done { IfOk result (λ end. IsReadAt ⟦<CopyFrom<S> as Disk>⟧ W.contents (image_at S.Start)
@@ -58,14 +58,14 @@ pub fn read_at<S: Start, W: Write>(
 fn read_on<S: Start, W: Write>(
     alloc: Global,
     tables: &mut Store<FileStore<CopyFrom<S>>>,
-    reading: &Reading<'_>,
+    reading: &DatabaseQuestion<'_>,
     output: &mut W,
 ) -> Result<Status, Failure>
     ensures { IsRead W.contents tables.old tables.new output.old output.new result (reading_of reading.now) }
 {
     match *reading {
-        Reading::Account(query) => print_account(alloc, tables, query, output),
-        Reading::Answer(question) => answer_on(alloc, tables, question, output),
+        DatabaseQuestion::Account(query) => print_account(alloc, tables, query, output),
+        DatabaseQuestion::Answer(question) => answer_on(alloc, tables, question, output),
     }
 }
 
@@ -78,12 +78,12 @@ fn paths_of(path: &str) -> Paths<'_> {
     }
 }
 
-/// Prints what is asked of the database file at a path. Neither the file nor its log is made or changed.
+/// Prints what a query of the database file at a path asks for. Neither the file nor its log is made or changed.
 pub(crate) fn read_in_file<S: Start, W: Write, E: Write>(
     rt: &HostRuntime,
     start: S,
     path: &str,
-    reading: &Reading<'_>,
+    reading: &DatabaseQuestion<'_>,
     output: &mut Watched<W>,
     errors: &mut Watched<E>,
 ) -> Status
@@ -101,7 +101,7 @@ fn not_read(rt: &HostRuntime, path: &str, refused: NotOpened) -> Failure
 {
     match refused.fault {
         OpenFault::NoMemory => Failure::from(Fault::NoMemory),
-        // As of any opening, there is one fault for every other failure, so the file is read once more to learn why.
+        // As for any opening, there is one fault for every other failure, so the file is read once more to learn why.
         OpenFault::Store => of_database(Fault::Store, reason_to_read(rt, path)),
         OpenFault::NotOurs(version) => {
             of_database(

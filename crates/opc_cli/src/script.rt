@@ -1,4 +1,4 @@
-//! A script over a gate, with the number that a program ends with.
+//! A script over a gate, with the number with which a program ends.
 ghost use Rattle.std.specs.Prelude.{◌≡◌};
 ghost use Rattle.opc_cli_failures.specs.Statuses.{number_of};
 ghost use Rattle.opc_cli.specs.Calls.{IsScript, status_of_script};
@@ -12,9 +12,9 @@ use opc_state::tables::Tables;
 use std::alloc::Global;
 
 /// Runs a script over a gate, and writes the transcript of its answers. The number is 0 if all is done, 1 if anything
-/// was refused, 2 if a line is bad, which is reported, and nothing is run; and 3 if there was no memory, or the tables
-/// or the output failed. This is for those who have a gate of their own: the program makes one over the tables that its
-/// words name.
+/// was refused, 2 if a line is bad, which is reported, and nothing is run; and 3 if an allocation, the tables or the
+/// output failed. This is for callers with a gate of their own: the program makes one over the tables that its
+/// arguments name.
 pub fn run_script<T: Tables, K: Sink>(
     alloc: Global,
     gate: &mut Gate<T>,

@@ -1,4 +1,4 @@
-//! A service over a gate, with the number that a program ends with.
+//! A service over a gate, with the number with which a program ends.
 ghost use Rattle.std.specs.Prelude.{◌≡◌};
 ghost use Rattle.opc_cli_failures.specs.Statuses.{number_of};
 ghost use Rattle.opc_http_connections.specs.Links.{Comes, source_of, link_of};
@@ -16,9 +16,9 @@ use opc_state::tables::Tables;
 use std::net::OpenListener;
 use std::rt::Clock;
 
-/// Serves this many clients that come to a listener, one after another, and waits for each as long as it takes. The
-/// number is 0 once all were served, and 3 if one could not be accepted. This is for those who have a gate and a
-/// listener of their own: the program serves the tables of a database file.
+/// Serves this many clients that come to a listener, one after another, without a time limit. The number is 0 once all
+/// were served, and 3 if one could not be accepted. This is for callers with a gate and a listener of their own: the
+/// program serves the tables of a database file.
 pub fn serve_on<H: AllocGlobal + Clock, L: OpenListener, T: Tables>(
     rt: &H,
     listener: &L,

@@ -1,10 +1,10 @@
--- What the program makes of what it wrote.
+-- The result of what the program wrote.
 use Rattle.std.proofs.Common.{◌≡◌, Bool, true, if◌then◌else◌, Result, Ok, Err}
 use Rattle.std.specs.Prelude.{IsErr, IsOk, MatchResult, is_err}
 use Rattle.opc_cli_failures.specs.declared.status.Status.{Status}
 use Rattle.opc_cli_failures.specs.declared.failure.Failure.{Failure}
 
--- it ends well if and only if all was written
+-- it succeeds if and only if all was written
 pub as_written : {A E : Type 0} (whole cut : Type 0) (wrote : Result A E) (end : Result Status Failure) → MatchResult wrote (λ _. IsOk end) (λ _. IsErr end)
     → MatchResult wrote (λ _. whole) (λ _. cut) → MatchResult end (λ _. whole) (λ _. cut)
 as_written whole cut (Ok a) (Ok status) same h = h

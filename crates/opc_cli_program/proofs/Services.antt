@@ -1,4 +1,4 @@
--- What a service comes to, over tables with a cache and over the tables alone.
+-- The outcome of a service, over tables with a cache and over the tables alone.
 use Rattle.std.proofs.Common.{◌≡◌, inl, inr, ℕ, List, Result, ap, subst, sym}
 use Rattle.opc_state.specs.Meaning.{Meaning}
 use Rattle.opc_state.specs.State.{State}
@@ -10,9 +10,9 @@ use Rattle.opc_http_requests.specs.declared.origins.Origins.{Origins}
 use Rattle.opc_http_serve.specs.Handled.{Handled, IsRunOf}
 use Rattle.opc_cli_failures.specs.declared.failure.Failure.{Failure}
 use Rattle.opc_cli_failures.specs.declared.status.Status.{Status}
-use Rattle.opc_cli_words.specs.declared.serve.Address.{Address}
-use Rattle.opc_cli_words.specs.declared.serve.Address.TheVariants.{Port, Socket}
-use Rattle.opc_cli_words.specs.declared.serve.Serve.{Serve}
+use Rattle.opc_cli_tasks.specs.declared.work.Address.{Address}
+use Rattle.opc_cli_tasks.specs.declared.work.Address.TheVariants.{Port, Socket}
+use Rattle.opc_cli_tasks.specs.declared.work.Serve.{Serve}
 use Rattle.opc_cli_program.specs.Services.{AreClients, IsNotBegun, IsPortService, IsServiceAt, IsSocketService}
 use Rattle.opc_cli_program.proofs.Uncached.{run}
 

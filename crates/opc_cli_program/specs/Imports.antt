@@ -42,7 +42,7 @@ use Rattle.opc_cli_failures.specs.declared.status.Status.{Status}
 use Rattle.opc_cli_failures.specs.declared.status.Status.TheVariants.{Done}
 use Rattle.opc_cli_failures.specs.declared.failure.Failure.{Failure}
 use Rattle.opc_cli_failures.specs.Statuses.{IsFailure}
-use Rattle.opc_cli_words.specs.declared.import.Import.{Import}
+use Rattle.opc_cli_tasks.specs.declared.work.Import.{Import}
 use Rattle.opc_cli_questions.specs.PolicyFiles.{AreRead, IsUnread}
 use Rattle.opc_cli_script.specs.Running.{AppendsPrefix}
 use Rattle.opc_cli_script.specs.Transcripts.{ended}
@@ -51,7 +51,7 @@ use Rattle.opc_cli_script.specs.Transcripts.{ended}
 abbrev pub lines_text : List Line → List ℕ
 lines_text lines = flat_map (λ line. ended line.text) lines
 
--- It ended well, or there was no memory or a device failed.
+-- It succeeded, or an allocation or a device failed.
 abbrev pub IsEnded : Result Status Failure → Type 0
 IsEnded end = MatchResult end (λ status. status ≡ Done) (λ failure. IsFailure failure.fault)
 
@@ -64,7 +64,7 @@ IsWritten text before written end = MatchResult end (λ _. Appends before writte
 abbrev pub FailsAsWritten : {K : Type 0} → (K → Bool) → (before written : K) → Result Status Failure → Type 0
 FailsAsWritten has_failed before written end = has_failed written ≡ (if is_err end then true else has_failed before)
 
--- An answer is printed: what is done by its lines, and what is refused by its fault, of which nothing is printed.
+-- An answer is printed: a request that is done by its lines; one that is refused prints nothing and returns its fault.
 abbrev pub IsReported : {K : Type 0} → (K → Option (List ℕ)) → (K → Bool) → Answer → (before written : K)
     → Result Status Failure → Type 0
 IsReported held has_failed (answer.Done lines rule) before written end =
@@ -100,7 +100,7 @@ module _ {T : Type 0} (m : Meaning T) (old new : T)
       ⊎ ((rows : List Row) × AreRead left rows × IsFirstPolicy rows)
 
   module _ {K : Type 0} (held : K → Option (List ℕ)) (has_failed : K → Bool) (before written : K) where
-    -- Nothing was handled: there was no memory, the input failed, or it is not a policy file.
+    -- Nothing was handled: an allocation or the input failed, or it is not a policy file.
     pub record IsNotBegun (left : Option (List ℕ)) : Type 0 where
       pub unread : IsErrAnd end (λ failure. IsUnread left failure.fault)
       pub same : new ≡ old

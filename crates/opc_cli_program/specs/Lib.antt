@@ -3,4 +3,5 @@ pub mod Lines
 pub mod Listening
 pub mod Services
 pub mod Imports
+pub mod InputFiles
 pub mod Works

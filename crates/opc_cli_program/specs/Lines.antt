@@ -35,11 +35,11 @@ use Rattle.opc_cli_program.specs.Runs.{IsNamedPolicyTaken}
 abbrev pub Streams : Type 0
 Streams = Option (List ℕ) × Option (List ℕ)
 
--- This was read of the input, and nothing was written.
+-- This was read from the input, and nothing was written.
 abbrev pub IsLineRead : (old : Streams) → Typed → (new : Streams) → Type 0
 IsLineRead old typed new = IsTyped old.0 new.0 typed × (new.1 ≡ old.1)
 
--- The clock showed a moment, and nothing was read or written.
+-- The clock showed a time, and nothing was read or written.
 abbrev pub IsDated : (old : Streams) → ℕ → (new : Streams) → Type 0
 IsDated old moment new = (moment ≤ LAST_MOMENT) × (new ≡ old)
 
@@ -50,7 +50,7 @@ IsSaid old text new = Appends old.1 new.1 text × (new.0 ≡ old.0)
 abbrev pub output_of : Streams → Option (List ℕ)
 output_of streams = streams.1
 
--- How the program ends if answering the lines came to this.
+-- How the program ends if answering the lines had this outcome.
 abbrev pub IsEndOfLines : Result Status NowFault → Result Status Failure → Type 0
 IsEndOfLines (Ok status) end = end ≡ Ok status
 IsEndOfLines (Err (Input error)) end = IsErrAnd end (IsErrorAt place.Input error)

@@ -35,14 +35,14 @@ use Rattle.opc_cli_script.specs.Running.{IsAnswered, IsBadRun}
 use Rattle.opc_cli_script.specs.Scripts.{script_limit}
 use Rattle.opc_cli_program.specs.Imports.{IsPolicyTaken}
 
--- What the program makes of a script's run: that a line is bad was printed on the output.
+-- The status for a script's run: a bad line was reported on the output.
 abbrev pub IsEndOf : Result Status ScriptFault → Result Status Failure → Type 0
 IsEndOf (Ok status) end = end ≡ Ok status
 IsEndOf (Err (BadLine number)) end = end ≡ Ok BadInput
 IsEndOf (Err NoMemory) end = IsErrAnd end (λ failure. failure.fault ≡ fault.NoMemory)
 IsEndOf (Err (Output error)) end = IsErrAnd end (IsErrorAt place.Output error)
 
--- what is read of what an input had left, if that is known: at most one byte past the limit
+-- what is read from what an input had left, if that is known: at most one byte past the limit
 abbrev pub AreScriptBytes : Option (List ℕ) → List ℕ → Type 0
 AreScriptBytes left bytes = IfSome left (λ all. bytes ≡ take (script_limit + 1) all)
 
@@ -80,7 +80,7 @@ module _ {T : Type 0} (m : Meaning T) where
       pub failed : has_failed written ≡ (if is_cut_by_output ran then true else has_failed before)
       pub ends : IsEndOf ran end
 
-    -- There was no memory or the input failed, and nothing was done, or what the input gave was run.
+    -- An allocation or the input failed, and nothing was done, or what the input gave was run.
     abbrev pub IsAnsweredInput : (old new : T) → (left : Option (List ℕ)) → (before written : K) → Result Status Failure
         → Type 0
     IsAnsweredInput old new left before written end =

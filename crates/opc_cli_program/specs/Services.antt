@@ -1,4 +1,4 @@
--- What the program makes of a service of many clients.
+-- How the program ends after serving many clients.
 use Rattle.std.specs.Prelude.{◌≡◌, ◌⊎◌, ℕ, Bool, List, Option, Result, Ok, Err, IsErrAnd, if◌then◌else◌}
 use Rattle.std.specs.Io.KnownBytes.{Appends}
 use Rattle.opc_state.specs.Meaning.{Meaning}
@@ -13,12 +13,12 @@ use Rattle.opc_cli_failures.specs.declared.failure.Place.TheVariants as place
 use Rattle.opc_cli_failures.specs.declared.status.Status.{Status}
 use Rattle.opc_cli_failures.specs.declared.status.Status.TheVariants.{Done, Failed}
 use Rattle.opc_cli_failures.specs.Statuses.{IsErrorAt, status_of_end}
-use Rattle.opc_cli_words.specs.declared.serve.Address.{Address}
-use Rattle.opc_cli_words.specs.declared.serve.Address.TheVariants.{Port, Socket}
-use Rattle.opc_cli_words.specs.declared.serve.Serve.{Serve}
+use Rattle.opc_cli_tasks.specs.declared.work.Address.{Address}
+use Rattle.opc_cli_tasks.specs.declared.work.Address.TheVariants.{Port, Socket}
+use Rattle.opc_cli_tasks.specs.declared.work.Serve.{Serve}
 use Rattle.opc_cli_program.specs.Listening.{listening_line, socket_line}
 
--- How the program ends if serving came to this: well, or with the error of the call that failed.
+-- How the program ends if serving had this outcome: done, or with the error of the call that failed.
 abbrev pub IsEndOfService : {A : Type 0} → Result A ServeFault → Result Status Failure → Type 0
 IsEndOfService (Ok all) end = end ≡ Ok Done
 IsEndOfService (Err (Accept error)) end = IsErrAnd end (IsErrorAt place.Connection error)

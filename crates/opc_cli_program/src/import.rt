@@ -4,11 +4,11 @@ ghost use Rattle.opc_machine.specs.Inputs.{input_of};
 ghost use Rattle.opc_cli_program.specs.Imports.{IsExport, IsFirstPolicy, IsImport, IsOneStep};
 
 use crate::printing::{print_answer, print_text};
-use crate::refusals::{not_imported, not_taken};
+use crate::refusals::{FirstPolicy, not_imported, not_taken};
 use opc_cli_failures::failure::{Failure, Place};
 use opc_cli_failures::status::Status;
-use opc_cli_questions::policy_file::read_rows;
-use opc_cli_words::import::Import;
+use opc_cli_questions::policy_file::{PolicyText, place_of, read_rows};
+use opc_cli_tasks::work::Import;
 use opc_gate::gate::Gate;
 use opc_gate::request::{Answer, Request};
 use opc_import::write::write_policy;
@@ -20,7 +20,7 @@ use opc_terms::fault::Fault;
 use std::alloc::Global;
 use std::io::Read;
 
-/// Puts the policy file on the input into these tables, at a moment, and returns them.
+/// Puts the policy file on the input into these tables, at this time, and returns them.
 pub fn import_on<T: Tables, R: Read, K: Sink>(
     alloc: Global,
     tables: T,
@@ -50,23 +50,27 @@ fn import_over<T: Tables, R: Read, K: Sink>(
     ensures imports { IsImport T.meaning gate.old gate.new result K.held K.has_failed
         output.old output.new (R.remaining input.old) moment import.now }
 {
-    let rows = read_rows(alloc, Place::Input, input)?;
+    // The place is made at each use, since the borrow checker does not cover copies of such an enum.
+    let PolicyText { bytes, rows } = read_rows(alloc, place_of(import.file), input)?;
     let Some(console) = import.console else {
-        return take_first(alloc, gate, Place::Input, &rows);
+        let policy = FirstPolicy::Imported(place_of(import.file));
+        return take_first(alloc, gate, policy, &bytes, &rows);
     };
     let request = Request::Import {
         console,
         batch: import.batch,
         rows: Rows::of(rows),
     };
-    handle_alone(alloc, gate, moment, &request, output)
+    let place = place_of(import.file);
+    handle_alone(alloc, gate, moment, place, &bytes, &request, output)
 }
 
-/// Takes the rows of a first policy, which come from this place.
+/// Takes the rows of a first policy, which stand in this text.
 pub(crate) fn take_first<T: Tables>(
     alloc: Global,
     gate: &mut Gate<T>,
-    place: Place,
+    policy: FirstPolicy,
+    text: &[u8],
     rows: &[Row],
 ) -> Result<Status, Failure>
     ensures sure { T.meaning.is_sure gate.new → T.meaning.is_sure gate.old }
@@ -74,15 +78,17 @@ pub(crate) fn take_first<T: Tables>(
 {
     match gate.bootstrap(alloc, rows) {
         Ok(()) => Ok(Status::Done),
-        Err(fault) => Err(not_taken(alloc, gate, place, rows, fault)),
+        Err(fault) => Err(not_taken(alloc, gate, policy, text, rows, fault)),
     }
 }
 
-/// Has one request handled, and prints its answer.
+/// Has the request of an import handled, whose text comes from this place, and prints its answer.
 fn handle_alone<T: Tables, K: Sink>(
     alloc: Global,
     gate: &mut Gate<T>,
     moment: u64,
+    place: Place,
+    text: &[u8],
     request: &Request,
     output: &mut K,
 ) -> Result<Status, Failure>
@@ -92,7 +98,9 @@ fn handle_alone<T: Tables, K: Sink>(
 {
     let answer = gate.handle(alloc, moment, request);
     match &answer {
-        Answer::Refused { fault, .. } => Err(not_imported(alloc, gate, request, *fault)),
+        Answer::Refused { fault, .. } => {
+            Err(not_imported(alloc, gate, place, text, request, *fault))
+        }
         Answer::Done { .. } => print_answer(&answer, output),
     }
 }

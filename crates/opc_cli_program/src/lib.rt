@@ -2,6 +2,7 @@
 #![tactic(auto)]
 
 pub mod import;
+pub mod input_file;
 pub mod lines;
 mod listening;
 pub mod log_stream;

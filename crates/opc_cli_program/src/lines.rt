@@ -39,7 +39,8 @@ pub fn answer_lines_on<H: AllocGlobal + Clock + LogStream + Openings, T: Tables,
     }
 }
 
-/// Answers the lines on the input over these tables, and returns them. Of a line at a time no cache would be of use.
+/// Answers the lines on the input over these tables, and returns them. For one line at a time a cache would be of no
+/// use.
 fn answer_over<H: AllocGlobal + Clock + LogStream, T: Tables, R: Read, W: Write>(
     rt: &H,
     tables: T,
@@ -57,7 +58,7 @@ fn answer_over<H: AllocGlobal + Clock + LogStream, T: Tables, R: Read, W: Write>
     (end, gate.into_tables())
 }
 
-/// What the program makes of lines that were answered: that one was bad was printed on the output.
+/// The status for lines that were answered: a bad line was reported on the output.
 fn ended(answered: Result<Status, NowFault>) -> Result<Status, Failure>
     ensures { IsEndOfLines answered result }
 {

@@ -107,7 +107,7 @@ fn write_socket<W: Write>(path: &str, output: &mut W) -> io::Result<()>
     output.flush()
 }
 
-/// What the program makes of what it wrote.
+/// The result of what the program wrote.
 #[tactic(auto, using(opc_cli_failures::proofs::Faults::streams_fail))]
 fn said(wrote: io::Result<()>) -> Result<(), Failure>
     ensures status { IfErr result (λ failure. status_of failure.fault ≡ Status.Failed) }

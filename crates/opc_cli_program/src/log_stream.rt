@@ -3,7 +3,7 @@
 use std::io::Write;
 use std::rt::Stderr;
 
-/// What has a stream for a log. The bytes that such a stream holds are not known, so no clause says which it is.
+/// What has a stream for a log. The bytes that such a stream holds are not known, so no clause states which it is.
 pub trait LogStream {
     type Stream: Write + Drop;
 

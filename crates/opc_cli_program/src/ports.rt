@@ -24,23 +24,22 @@ pub trait Ports {
     /// Listens at the file of a Unix socket.
     type Socket: ClientListener + Drop;
 
-    /// That a listener was bound to an address. What a function over any ports promises by it can only be shown by a
-    /// call.
+    /// A listener was bound to an address. Only a call can show what a function over any ports promises by this.
     ghost binds: { Self → SocketAddr → Self.Listener → Type 0 };
 
-    /// That this is the address of a listener.
+    /// This is the address of a listener.
     ghost is_at: { Self → Self.Listener → SocketAddr → Type 0 };
 
-    /// That the file at this path was made for a socket.
+    /// The file at this path was made for a socket.
     ghost names: { Self → List ℕ → Self.Bound → Type 0 };
 
-    /// That the file at this path was given these permissions.
+    /// The file at this path was given these permissions.
     ghost permits: { Self → List ℕ → ℕ → Type 0 };
 
-    /// That a socket began to listen.
+    /// A socket began to listen.
     ghost listens: { Self → Self.Bound → Self.Socket → Type 0 };
 
-    /// That the file at this path was removed, if it was the one that was made for this socket, and nothing else was.
+    /// The file at this path was removed, if it was the one that was made for this socket, and nothing else was.
     ghost removes: { Self → List ℕ → Self.Socket → Type 0 };
 
     fn bind(&self, address: SocketAddr) -> io::Result<Self::Listener>

@@ -1,4 +1,4 @@
-//! What the program prints on its output, and what it makes of an output that fails.
+//! What the program prints on its output, and how it reports an output that fails.
 ghost use Rattle.std.specs.Prelude.{◌≡◌, IsErr, IsOk, MatchResult, if◌then◌else◌, is_err, true};
 ghost use Rattle.std.specs.Io.KnownBytes.{Appends};
 ghost use Rattle.opc_cli_script.specs.Running.{AppendsPrefix};
@@ -23,7 +23,7 @@ fn write_line<K: Sink>(output: &mut K, text: &str) -> io::Result<()>
     write_text(output, "\n")
 }
 
-/// Writes the lines of an answer, and takes no memory: what was done is printed even if there is none.
+/// Writes the lines of an answer, without an allocation: what was done is printed even if no memory is left.
 fn write_lines<K: Sink>(output: &mut K, lines: &[Line]) -> io::Result<()>
     ensures text { MatchResult result (λ _. Appends (K.held output.old) (K.held output.new) (lines_text lines.now))
         (λ _. AppendsPrefix (K.held output.old) (K.held output.new) (lines_text lines.now)) }
@@ -35,7 +35,7 @@ fn write_lines<K: Sink>(output: &mut K, lines: &[Line]) -> io::Result<()>
     Ok(())
 }
 
-/// What the program makes of what it wrote.
+/// The result of what the program wrote.
 fn printed(wrote: io::Result<()>) -> Result<Status, Failure>
     ensures ends { IsEnded result }
     ensures same { MatchResult wrote (λ _. IsOk result) (λ _. IsErr result) }
@@ -55,7 +55,7 @@ pub fn print_text<K: Sink>(output: &mut K, text: &str) -> Result<Status, Failure
     printed(write_text(output, text))
 }
 
-/// Prints the lines of an answer, or gives its fault.
+/// Prints the lines of an answer, or returns its fault.
 pub fn print_answer<K: Sink>(answer: &Answer, output: &mut K) -> Result<Status, Failure>
     ensures { IsReported K.held K.has_failed answer.now output.old output.new result }
 {

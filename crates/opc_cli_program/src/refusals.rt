@@ -1,4 +1,4 @@
-//! What is in the way of rows that are refused, as the tables show it.
+//! Why rows are refused, as the tables show it.
 ghost use Rattle.std.specs.Prelude.{◌≡◌};
 ghost use Rattle.opc_state.specs.Changes.{IsKept};
 ghost use Rattle.opc_state.specs.PolicyFile.{rows_of};
@@ -16,51 +16,78 @@ use opc_state::tables::Tables;
 use opc_terms::fault::{Fault, Subject};
 use std::alloc::Global;
 
-/// The fault of rows that are refused over what the tables hold, with the row whose fault it is, if it is found.
+/// Where a first policy comes from.
+#[derive(Clone, Copy)]
+pub(crate) enum FirstPolicy {
+    /// The policy file that a run names.
+    Named,
+    /// An import, whose rows are in this place.
+    Imported(Place),
+}
+
+impl FirstPolicy {
+    /// The place of its rows.
+    fn place(self) -> Place {
+        match self {
+            FirstPolicy::Named => Place::PolicyFile,
+            FirstPolicy::Imported(place) => place,
+        }
+    }
+
+    /// Why it is refused where users are stored.
+    fn if_users(self) -> Reason {
+        match self {
+            FirstPolicy::Named => Reason::UsersRun,
+            FirstPolicy::Imported(_) => Reason::UsersImported,
+        }
+    }
+}
+
+/// The fault of the rows of a text that are refused over what the tables hold, with the row whose fault it is, if that
+/// is found.
 fn refused_over<T: Tables>(
     alloc: Global,
     gate: &mut Gate<T>,
     place: Place,
+    text: &[u8],
     rows: &[Row],
     fault: Fault,
 ) -> Failure
     ensures fault { result.fault ≡ fault }
     ensures told { T.meaning.is_sure gate.new → (s : State) → T.meaning.represents gate.old s
-        → TellsOf (rows_of s.policy s.board.consoles) rows.now result.cause }
+        → TellsOf text.now (rows_of s.policy s.board.consoles) rows.now result.cause }
     ensures kept { IsKept T.meaning gate.old gate.new }
 {
     match gate.export(alloc) {
-        Ok(stored) => refused(alloc, place, &stored, rows, fault),
+        Ok(stored) => refused(alloc, place, text, &stored, rows, fault),
         Err(_) => Failure { fault, cause: None },
     }
 }
 
-/// The fault of a first policy that is not taken, and what is in the way of it.
+/// The fault of a first policy that was not taken, and its cause.
 #[tactic(auto, using(crate::proofs::Kept::untouched))]
 pub(crate) fn not_taken<T: Tables>(
     alloc: Global,
     gate: &mut Gate<T>,
-    place: Place,
+    policy: FirstPolicy,
+    text: &[u8],
     rows: &[Row],
     fault: Fault,
 ) -> Failure
     ensures fault { result.fault ≡ fault }
     ensures kept { IsKept T.meaning gate.old gate.new }
 {
-    match (fault, place) {
-        (Fault::NotEmpty, Place::PolicyFile) => {
-            Failure::of(fault, Place::Database, Reason::UsersRun)
-        }
-        (Fault::NotEmpty, _) => Failure::of(fault, Place::Database, Reason::UsersImported),
-        (Fault::Exists(_) | Fault::Missing(_), _) => {
-            refused_over(alloc, gate, place, rows, fault)
+    match fault {
+        Fault::NotEmpty => Failure::of(fault, Place::Database, policy.if_users()),
+        Fault::Exists(_) | Fault::Missing(_) => {
+            refused_over(alloc, gate, policy.place(), text, rows, fault)
         }
         // The code and the text of any other fault say enough.
         _ => Failure::of_gate(fault),
     }
 }
 
-/// Why the right of SPECIAL is not found at a console: nobody acts there, or this user.
+/// Why nobody with SPECIAL is found at a console: nobody acts there, or this user.
 fn not_special(fault: Fault, console: &ConsoleName, user: Option<UserId>) -> Failure
     ensures { result.fault ≡ fault }
 {
@@ -71,11 +98,13 @@ fn not_special(fault: Fault, console: &ConsoleName, user: Option<UserId>) -> Fai
     Failure::of(fault, Place::Console(Subject::of(console)), reason)
 }
 
-/// The fault of an import that is refused at a console, and what is in the way of it.
+/// The fault of an import that is refused at a console, and its cause. The rows come from this place.
 #[tactic(auto, using(crate::proofs::Kept::untouched))]
 pub(crate) fn not_imported<T: Tables>(
     alloc: Global,
     gate: &mut Gate<T>,
+    place: Place,
+    text: &[u8],
     request: &Request,
     fault: Fault,
 ) -> Failure
@@ -89,8 +118,18 @@ pub(crate) fn not_imported<T: Tables>(
                 Err(_) => Failure::from(fault),
             }
         }
+        (Fault::LogonRequired, Request::Import { console, .. }) => {
+            not_special(fault, console, None)
+        }
+        (Fault::NoConsole, Request::Import { console, .. }) => {
+            Failure::of(
+                fault,
+                Place::Console(Subject::of(console)),
+                Reason::NoSuchConsole,
+            )
+        }
         (Fault::Exists(_) | Fault::Missing(_), Request::Import { rows, .. }) => {
-            refused_over(alloc, gate, Place::Input, rows.as_slice(), fault)
+            refused_over(alloc, gate, place, text, rows.as_slice(), fault)
         }
         // The code and the text of any other fault say enough.
         _ => Failure::of_gate(fault),

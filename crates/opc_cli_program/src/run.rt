@@ -6,10 +6,11 @@ ghost use Rattle.opc_cli_program.specs.Runs.{IsAnsweredInput, IsEndOf, IsNamedPo
 
 use crate::import::take_first;
 use crate::log_stream::LogStream;
+use crate::refusals::FirstPolicy;
 use opc_cli_failures::failure::{Failure, Place, note};
 use opc_cli_failures::status::Status;
 use opc_cli_questions::openings::Openings;
-use opc_cli_questions::policy_file::read_rows_at;
+use opc_cli_questions::policy_file::{PolicyText, read_rows_at};
 use opc_cli_questions::streams::read_up_to;
 use opc_cli_script::bad_line::reason_of;
 use opc_cli_script::run::{print_bad_line, run_script};
@@ -68,8 +69,8 @@ fn take_file<H: AllocGlobal + Openings, T: Tables>(
     ensures sure { T.meaning.is_sure gate.new → T.meaning.is_sure gate.old }
     ensures takes { IsPolicyTaken T.meaning gate.old gate.new result (H.holds rt.now path.now) }
 {
-    let rows = read_rows_at(rt.alloc(), rt, path)?;
-    take_first(rt.alloc(), gate, Place::PolicyFile, &rows)
+    let PolicyText { bytes, rows } = read_rows_at(rt.alloc(), rt, path)?;
+    take_first(rt.alloc(), gate, FirstPolicy::Named, &bytes, &rows)
 }
 
 /// Runs the script on the input over these tables, with a cache of which profile decides, and returns them.
@@ -128,7 +129,7 @@ fn run_bytes<T: Tables, K: Sink>(
     }
 }
 
-/// Says on standard error why a line is bad. Nothing is known of what that stream holds, so no clause speaks of it; the
+/// Reports on standard error why a line is bad. Nothing is known of what that stream holds, so no clause states it; the
 /// tables of `tools/program` have the words.
 fn note_bad_line<H: LogStream>(rt: &H, bytes: &[u8], ran: &Result<Status, ScriptFault>) {
     let Err(ScriptFault::BadLine(number)) = ran else {
@@ -139,7 +140,7 @@ fn note_bad_line<H: LogStream>(rt: &H, bytes: &[u8], ran: &Result<Status, Script
     }
 }
 
-/// What the program makes of a script's run: that a line is bad was printed on the output.
+/// The status for a script's run: a bad line was reported on the output.
 fn ended(ran: Result<Status, ScriptFault>) -> Result<Status, Failure>
     ensures { IsEndOf ran result }
 {

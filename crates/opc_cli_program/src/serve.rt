@@ -20,7 +20,7 @@ use crate::log_stream::LogStream;
 use crate::ports::Ports;
 use opc_cli_failures::failure::{Failure, Place};
 use opc_cli_failures::status::Status;
-use opc_cli_words::serve::{Address, Serve};
+use opc_cli_tasks::work::{Address, Serve};
 use opc_gate::gate::Gate;
 use opc_http_connections::listener::ClientListener;
 use opc_http_connections::timer::Timer;
@@ -36,7 +36,7 @@ use std::alloc::Global;
 use std::io::Write;
 use std::rt::Clock;
 
-/// What the program makes of a service.
+/// The status for a service.
 fn ended(served: Result<(), ServeFault>) -> Result<Status, Failure>
     ensures { IsEndOfService served result }
 {
@@ -63,7 +63,7 @@ fn routes_at(alloc: Global, strict: bool, port: u16) -> Result<Routes, Failure>
     }
 }
 
-/// Where exchanges are logged, if they are.
+/// Where exchanges are logged, if anywhere.
 fn log_on<H: LogStream>(rt: &H, is_asked: bool) -> Option<Watched<H::Stream>>
     ensures { is_some result ≡ is_asked }
 {

@@ -44,7 +44,7 @@ impl<'a, H, R, W> Streams<'a, H, R, W> {
     }
 }
 
-/// Writes a text to an output, and flushes that. An output that can't be flushed failed.
+/// Writes a text to an output, and flushes that. An output that cannot be flushed failed.
 fn write_flushed<W: Write>(output: &mut Watched<W>, text: &str) -> io::Result<()>
     ensures text { OnOk result (Appends (W.contents output.old.inner) (W.contents output.new.inner) text.now) }
     ensures cut { OnErr result (AppendsPrefix (W.contents output.old.inner) (W.contents output.new.inner) text.now) }

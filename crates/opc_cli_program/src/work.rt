@@ -1,4 +1,4 @@
-//! A work of the program, over tables that are open.
+//! An operation of the program, over tables that are open.
 ghost use Rattle.opc_http_connections.specs.Links.{Comes, source_of, link_of};
 ghost use Rattle.opc_cli_program.specs.Works.{IsDone, IsImportNow};
 
@@ -11,33 +11,17 @@ use crate::serve::serve_tables;
 use opc_cli_failures::failure::{Failure, Place};
 use opc_cli_failures::status::Status;
 use opc_cli_questions::openings::Openings;
-use opc_cli_words::import::Import;
-use opc_cli_words::serve::Serve;
+use opc_cli_tasks::work::{Import, Lines, Work};
 use opc_http_connections::listener::ClientListener;
 use opc_http_connections::timer::Timer;
 use opc_http_serve::clock::moment;
 use opc_io::watched::Watched;
-use opc_names::name::ConsoleName;
 use opc_state::tables::Tables;
 use std::io::{Read, Write};
 use std::rt::Clock;
 
-/// What is done over tables.
-#[derive(Clone, Copy)]
-pub enum Work<'a> {
-    /// The first policy is taken, if a file of one is named, and then the script on the input is run.
-    Run(Option<&'a str>),
-    /// The same, and then the lines on the input are answered as they are read, at this console, if one is named.
-    Lines(Option<&'a str>, Option<ConsoleName>),
-    /// The policy file on the input is put into the tables, at the clock's moment.
-    Import(Import<'a>),
-    /// The policy is written as a policy file.
-    Export,
-    /// Clients are served over HTTP.
-    Serve(Serve<'a>),
-}
-
-/// Does a work over these tables, and returns them.
+/// Runs an operation over these tables, and returns them. The input is what the operation reads: the file that it names
+/// or, if it names none, the standard input.
 pub fn work_on<
     H: AllocGlobal + Clock + LogStream + Openings,
     P: Ports<Listener = L, Socket = S>,
@@ -64,17 +48,17 @@ where
         S.Client.remaining S.Client.contents) (Comes S.accepts S.Client.clones)) (H.holds rt.now) work.now }
 {
     match work {
-        Work::Run(policy) => run_on(rt, tables, *policy, input, output),
-        Work::Lines(policy, console) => {
-            answer_lines_on(rt, tables, *policy, console, input, output)
-        }
+        Work::Run { policy, lines } => match lines {
+            Lines::Script(_) => run_on(rt, tables, *policy, input, output),
+            Lines::Now(console) => answer_lines_on(rt, tables, *policy, console, input, output),
+        },
         Work::Import(import) => import_now(rt, tables, import, input, output),
         Work::Export => export_on(rt.alloc(), tables, output),
         Work::Serve(serve) => serve_tables(rt, ports, tables, serve, &mut output.inner),
     }
 }
 
-/// Puts the policy file on the input into these tables, at the clock's moment, and returns them.
+/// Puts the policy file on the input into these tables, at the time of the clock, and returns them.
 fn import_now<H: AllocGlobal + Clock, T: Tables, R: Read, W: Write>(
     rt: &H,
     tables: T,

@@ -74,7 +74,7 @@ none_found p xs before = rw (le-ltb (position_or_len p xs) (length xs) before) r
 pub flat_more : {X Y : Type 0} (f : X → List Y) (xs : List X) (x : X) → flat_map f (xs ++ x ∷ []) ≡ flat_map f xs ++ f x
 flat_more f xs x = flat_map-append f xs (x ∷ []) ∙ ap (λ t. flat_map f xs ++ t) (append-nil (f x))
 
--- a blank line asks nothing: no digit stands before its first space
+-- a blank line has no request: no digit stands before its first space
 pub blank_asks_nothing : (line : List ℕ) → is_blank line ≡ true → request_in line ≡ None
 unfolding parts_in
 blank_asks_nothing [] h = refl

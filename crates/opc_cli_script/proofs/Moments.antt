@@ -1,4 +1,4 @@
--- Numbers without a sign, as `parse` reads them.
+-- Unsigned numbers, as `parse` reads them.
 use Rattle.std.proofs.Common.{
   ◌≡◌,
   ◌<◌,

@@ -1,4 +1,4 @@
--- What a listener prints that writes the text of each answer it hears.
+-- What a listener that writes the text of each answer prints.
 use Rattle.std.proofs.Common.{
   ◌≡◌,
   ℕ,

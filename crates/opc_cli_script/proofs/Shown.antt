@@ -51,7 +51,7 @@ left_out : (xs : List ℕ) (y : ℕ) (ys : List ℕ) → list_all is_space xs �
     → after_spaces (xs ++ y ∷ ys) ≡ y ∷ ys
 left_out xs y ys all ends = rw (pass is_space xs y ys all ends) (drop-append_seam xs (y ∷ ys))
 
--- what goes on a word is no space
+-- what continues a word is no space
 no_space : (space comma more : Bool) → (not (space || comma) && more) ≡ true → space ≡ false
 no_space true comma more h = absurd (cc)
 no_space false comma more h = refl

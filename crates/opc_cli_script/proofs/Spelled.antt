@@ -1,4 +1,4 @@
--- A text reads as an event only if it is that event's text.
+-- A text is read as an event only if it is that event's text.
 use Rattle.std.proofs.Common.{
   ◌≡◌,
   ◌<◌,

@@ -61,7 +61,7 @@ module _ {D : Type 0} (reads : D → Typed → D → Type 0) (dates : D → ℕ 
       go None same = same
       go (Some t) made = (other t made.0, made.1)
 
-  -- nothing was made of a line
+  -- a line was not handled
   pub none_made : (P : Turn → Type 0) (number : ℕ) (old new : T) (met last : D) (f : NowFault) → IsFaultOf f None → new ≡ old → held last ≡ held met
       → IsCutTurn reads dates says held m P number old new met last f
   none_made P number old new met last f fits same silent = record { turn = None; fits = fits; made = same; text = silent }

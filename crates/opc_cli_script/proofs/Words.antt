@@ -69,7 +69,7 @@ chosen false f x y h = absurd (search (rules, h))
 is_32 : (c : ℕ) → is_space c ≡ true → c ≡ 32
 is_32 c h = grind (arith, nat_tests)
 
--- the two words stand round a space
+-- the two words stand around a space
 pub separated_is : (text : List ℕ) (words : List ℕ × List ℕ) → separated text ≡ Some words → text ≡ words.0 ++ 32 ∷ words.1
 separated_is text words h =
     let c = chosen (nat_lt (position_or_len is_space text) (length text)) (λ at. (take at text, drop (at + 1) text)) (position_or_len is_space text) words h in

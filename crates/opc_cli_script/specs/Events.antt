@@ -27,13 +27,13 @@ event_words (event.Allocate device unit) = codes "ALLOCATE" ∷ device ∷ unit 
 event_words (event.Free device) = codes "FREE" ∷ device ∷ []
 event_words event.Resume = codes "RESUME" ∷ []
 
--- its text, with one space between its words
--- How an event is spelled is this definition; reading is another. Two laws join them, EventsReadBack and
--- EventsAreSpelled: each event reads back from its text, and a text is an event only if it is that event's text.
+-- Its text, with one space between its words. How an event is spelled is this definition; reading is another. Two laws
+-- join them, EventsReadBack and EventsAreSpelled: each event reads back from its text, and a text is an event only if
+-- it is that event's text.
 abbrev pub event_text : Event → List ℕ
 event_text e = columns (event_words e)
 
--- a text that reads as a name of this kind
+-- a text that is a name of this kind
 abbrev pub IsName : NameRule → List ℕ → Type 0
 IsName rule text = name_fault rule text ≡ None
 

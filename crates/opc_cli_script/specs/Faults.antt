@@ -1,4 +1,4 @@
--- Why lines are answered no further.
+-- Why no further lines are answered.
 use Rattle.std.specs.Prelude.{◌≡◌, Bool, true, false, Option, None, Result, Ok, Err}
 use Rattle.std.specs.Option.{is_some}
 use Rattle.opc_cli_script.specs.declared.turn.Turn.{Turn}
@@ -25,7 +25,8 @@ abbrev pub is_cut_by_output : {A : Type 0} → Result A NowFault → Bool
 is_cut_by_output (Ok value) = false
 is_cut_by_output (Err fault) = is_output fault
 
--- When each comes: nothing was made of a line that was not read or not dated, and the output failed at what was.
+-- When each applies: a line that could not be read or timestamped was not handled, and the output failed for one that
+-- was.
 abbrev pub IsFaultOf : NowFault → Option Turn → Type 0
 IsFaultOf (Input error) turn = turn ≡ None
 IsFaultOf (Clock error) turn = turn ≡ None

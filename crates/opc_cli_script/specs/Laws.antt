@@ -25,18 +25,18 @@ pub record IsWord (text : List ℕ) : Type 0 where
   pub spaces : list_all is_space before ≡ true
   pub word : list_all is_in_word (first ∷ rest) ≡ true
 
--- Whatever stands behind the word that is wrong, after a space or a comma, the same is shown: no password of a LOGON.
+-- Whatever stands after the word that is wrong, after a space or a comma, the same is shown: no password of a LOGON.
 pub record SlipsShowNoPassword : Type 0 where
-  -- of a line without a moment, its first word
+  -- of a line without a timestamp, its first word
   pub of_no_moment : (word one other : List ℕ) (end last : ℕ) → IsWord word → is_in_word end ≡ false
       → is_in_word last ≡ false
       → shown_start Script NoMoment (word ++ end ∷ one) ≡ shown_start Script NoMoment (word ++ last ∷ other)
-  -- of a line whose console does not read, its moment and the console
+  -- of a line whose console is invalid, its timestamp and the console
   pub of_consoles : (moment word one other : List ℕ) (end last : ℕ) → IsWord moment → IsWord word
       → is_in_word end ≡ false → is_in_word last ≡ false
       → shown_start Script Console (moment ++ 32 ∷ word ++ end ∷ one)
       ≡ shown_start Script Console (moment ++ 32 ∷ word ++ last ∷ other)
-  -- and where lines have no moment, the console
+  -- and if lines have no timestamp, the console
   pub of_untimed : (word one other : List ℕ) (end last : ℕ) → IsWord word → is_in_word end ≡ false
       → is_in_word last ≡ false
       → shown_start Now Console (word ++ end ∷ one) ≡ shown_start Now Console (word ++ last ∷ other)

@@ -1,16 +1,16 @@
--- Why a script is not run, or not to its end.
+-- Why a script was not run, or not to its end.
 use Rattle.std.specs.Prelude.{◌≡◌, ℕ, Bool, true, false, List, Some, Result, Ok, Err}
 use Rattle.opc_cli_script.specs.declared.script.ScriptFault.{ScriptFault}
 use Rattle.opc_cli_script.specs.declared.script.ScriptFault.TheVariants.{BadLine, NoMemory, Output}
 use Rattle.opc_cli_script.specs.Scripts.{bad_line, is_bad}
 
--- the line with this number is bad, or there was no memory
+-- the line with this number is bad, or an allocation failed
 abbrev pub IsLineUnread : ℕ → List ℕ → ScriptFault → Type 0
 IsLineUnread number line (BadLine found) = (found ≡ number) × (is_bad line ≡ true)
 IsLineUnread number line NoMemory = Unit {0}
 IsLineUnread number line (Output error) = ⊥
 
--- the script has its first bad line there, or there was no memory
+-- the script has its first bad line there, or an allocation failed
 abbrev pub IsUnread : List ℕ → ScriptFault → Type 0
 IsUnread script (BadLine number) = bad_line script ≡ Some number
 IsUnread script NoMemory = Unit {0}

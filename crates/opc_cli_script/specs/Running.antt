@@ -18,8 +18,7 @@ pub record AppendsPrefix (old new : Option (List ℕ)) (text : List ℕ) : Type 
   pub len : ℕ
   pub prefix : Appends old new (take len text)
 
--- A text was not written as a whole: there was no memory for it, and nothing was written, or the output took a prefix
--- alone.
+-- A text was not written as a whole: its allocation failed, and nothing was written, or the output took only a prefix.
 abbrev pub IsCutOff : ScriptFault → Option (List ℕ) → Option (List ℕ) → List ℕ → Type 0
 IsCutOff NoMemory before written text = written ≡ before
 IsCutOff (Output error) before written text = AppendsPrefix before written text
@@ -52,7 +51,7 @@ module _ {T : Type 0} (m : Meaning T) where
     pub text : Appends before met (transcript reported answers)
     pub cut_off : IsCutOff fault met written (answer_text request.0 answer)
 
-  -- There was no memory for the requests, and nothing was done.
+  -- The allocation of the requests failed, and nothing was done.
   pub record IsNotBegun (old new : T) (before written : Option (List ℕ)) (fault : ScriptFault) : Type 0 where
     pub no_memory : fault ≡ NoMemory
     pub same : new ≡ old

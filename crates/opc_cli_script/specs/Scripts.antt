@@ -1,4 +1,4 @@
--- Scripts: requests with their moments, a line each.
+-- Scripts: requests with their timestamps, a line each.
 use Rattle.std.specs.Prelude.{
   ◌==◌,
   ◌&&◌,
@@ -26,7 +26,7 @@ use Rattle.opc_machine.specs.declared.request.Request.{Request}
 use Rattle.opc_machine.specs.declared.request.Request.TheVariants.{Command, Event}
 use Rattle.opc_cli_script.specs.Reading.{◌>>=◌, is_space, separated, name_in, event_in}
 
--- the most digits of a moment
+-- the most digits of a timestamp
 abbrev pub moment_digits : ℕ
 moment_digits = 13
 
@@ -47,7 +47,7 @@ request_of words =
     if bytes_eq words.0 (codes "*") then option_map Event (event_in words.1) else
     option_map (λ console. Command console words.1) (name_in console_rule words.0)
 
--- The parts of a line, with one space between them: the moment, and then console or `*`, and text.
+-- The parts of a line, with one space between them: the timestamp, and then console or `*`, and text.
 unfoldable pub parts_in : List ℕ → Option (ℕ × (List ℕ × List ℕ))
 parts_in line = do
   words ← separated line
@@ -62,7 +62,7 @@ request_in line = do
   request ← request_of parts.1
   Some (parts.0, request)
 
--- the request of a line without a moment
+-- the request of a line without a timestamp
 abbrev pub untimed_request_in : List ℕ → Option Request
 untimed_request_in line = separated line >>= request_of
 

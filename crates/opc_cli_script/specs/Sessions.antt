@@ -33,8 +33,8 @@ module _ {T : Type 0} (m : Meaning T) where
 
 module _ {D : Type 0} (reads : D → Typed → D → Type 0) (dates : D → ℕ → D → Type 0) (says : D → List ℕ → D → Type 0)
   where
-    -- What is done once a line is read: nothing, or its number is printed and flushed as that of a bad line, or the clock
-    -- shows a moment and then the answer is.
+    -- What is done once a line is read: nothing, or its number is printed and flushed as that of a bad line, or the
+    -- clock shows a time, and then the answer is printed and flushed.
     abbrev pub IsShown : (number : ℕ) → Turn → (met last : D) → Type 0
     IsShown number Blank met last = last ≡ met
     IsShown number Bad met last = says met (bad_line_text number) last
@@ -42,7 +42,7 @@ module _ {D : Type 0} (reads : D → Typed → D → Type 0) (dates : D → ℕ 
         (dated : D) × dates met moment dated × says dated (answer_text moment answer) last
 
     module _ (console : Option (List ℕ)) where
-      -- A line was read, and then what it comes to was shown.
+      -- A line was read, and then its outcome was shown.
       pub record IsTurn (number : ℕ) (turn : Turn) (met last : D) : Type 0 where
         pub typed : Typed
         pub read_to : D
@@ -50,7 +50,7 @@ module _ {D : Type 0} (reads : D → Typed → D → Type 0) (dates : D → ℕ 
         pub is : IsTurnOf console typed turn
         pub shown : IsShown number turn read_to last
 
-      -- Each line was read after what the line before it comes to was shown.
+      -- Each line was read after the outcome of the line before it was shown.
       abbrev pub AreTurns : (number : ℕ) → (first : D) → List Turn → (last : D) → Type 0
       AreTurns number first [] last = last ≡ first
       AreTurns number first (turn ∷ turns) last =
@@ -64,7 +64,7 @@ module _ {D : Type 0} (reads : D → Typed → D → Type 0) (dates : D → ℕ 
         pub text : Appends (held met) (held last) (turn_text number turn)
         pub step : IsStep m old new turn
 
-      -- Nothing was made of a line, or a turn of this kind that was not shown as a whole.
+      -- A line was not handled, or a turn of this kind was made that was not shown as a whole.
       pub record IsCutTurn (is : Turn → Type 0) (number : ℕ) (old new : T) (met last : D) (fault : NowFault) : Type 0
         where
           pub turn : Option Turn
@@ -93,7 +93,7 @@ module _ {D : Type 0} (reads : D → Typed → D → Type 0) (dates : D → ℕ 
           pub silent : held last ≡ held met
           pub same : new ≡ old
 
-        -- Lines were answered, from the first on: what was printed is what they come to, in order, and their answers are
+        -- Lines were answered, from the first on: what was printed is their outcomes, in order, and their answers are
         -- those of the gate.
         pub record AreTaken (old new : T) (first last : D) (turns : List Turn) : Type 0 where
           pub are : AreTurns console 1 first turns last
@@ -109,8 +109,8 @@ module _ {D : Type 0} (reads : D → Typed → D → Type 0) (dates : D → ℕ 
           pub silent : held last ≡ held ended
           pub status_is : status ≡ status_of_turns turns
 
-        -- Lines were answered, and then something failed: the next was not read or not dated, or what it comes to was not
-        -- shown as a whole. No request of a further line is handled, and nothing is printed of one.
+        -- Lines were answered, and then something failed: the next could not be read or timestamped, or its outcome was
+        -- not shown as a whole. No request of a further line is handled, and nothing is printed of one.
         pub record IsCutSession (old new : T) (first last : D) (fault : NowFault) : Type 0 where
           pub turns : List Turn
           pub mid : T

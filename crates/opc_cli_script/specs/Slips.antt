@@ -34,7 +34,7 @@ word_of line (Some words) = words.0
 abbrev pub first_word : List ℕ → List ℕ
 first_word line = word_of line (separated line)
 
--- Who asks may be missing or no name; where `*` does, the event does not read.
+-- The console may be missing or no name; after `*`, the event may be invalid.
 abbrev pub slip_of_request : List ℕ → Slip
 slip_of_request who =
     if bytes_eq who (codes "*") then Event else (if length who == 0 then NoConsole else Console)
@@ -43,7 +43,7 @@ abbrev pub slip_of_parts : List ℕ → Option (List ℕ × List ℕ) → Slip
 slip_of_parts rest None = if length rest == 0 then NoConsole else NoText
 slip_of_parts rest (Some words) = slip_of_request words.0
 
--- and of what follows the moment
+-- and of what follows the timestamp
 abbrev pub slip_after : List ℕ → Slip
 slip_after rest = slip_of_parts rest (separated rest)
 
@@ -57,7 +57,7 @@ slip_in line =
     if not (is_number (first_word line)) then NoMoment else
     (if not (nat_le (length (first_word line)) moment_digits) then LongMoment else slip_of_words (separated line))
 
--- A word goes on to a space or a comma.
+-- A word extends to a space or a comma.
 abbrev pub is_in_word : ℕ → Bool
 is_in_word c = not ((c == 32) || (c == 44))
 
@@ -68,12 +68,12 @@ after_spaces text = drop (prefix_len is_space text) text
 abbrev pub past_word : List ℕ → List ℕ
 past_word text = drop (prefix_len is_in_word (after_spaces text)) (after_spaces text)
 
--- what follows the word that is a moment, or stands in its place
+-- what follows the timestamp, or the word in its place
 abbrev pub past_moment : LineForm → List ℕ → List ℕ
 past_moment Script line = past_word line
 past_moment Now line = line
 
--- What follows the word that is wrong: the moment itself, the word after it, or that of an event after `*`.
+-- What follows the word that is wrong: the timestamp itself, the word after it, or that of an event after `*`.
 abbrev pub hidden_after : Slip → List ℕ → List ℕ
 hidden_after NoMoment rest = rest
 hidden_after LongMoment rest = rest

@@ -1,4 +1,4 @@
--- Statuses: what the answers of a run come to.
+-- Statuses: the outcome of the answers of a run.
 use Rattle.std.specs.Prelude.{Bool, true, false, if◌then◌else◌, List}
 use Rattle.std.specs.List.{list_any}
 use Rattle.opc_terms.specs.declared.fault.Fault.TheVariants as fault
@@ -16,7 +16,7 @@ abbrev pub is_refused : Answer → Bool
 is_refused (answer.Refused fault rule) = true
 is_refused (answer.Done lines rule) = false
 
--- Failed if there was no memory or the store failed, otherwise refused if anything was refused, otherwise done.
+-- Failed if an allocation or the store failed, otherwise refused if anything was refused, otherwise done.
 abbrev pub status_of : List Answer → Status
 status_of answers = if list_any is_aborted answers then Failed else
     (if list_any is_refused answers then Refused else Done)

@@ -18,7 +18,7 @@ ended text = text ++ 10 ∷ []
 abbrev pub shown_line : Line → List ℕ
 shown_line line = ended (codes "  " ++ line.text)
 
--- The text of an answer: moment, what became of the request and its rule, and then the lines.
+-- The text of an answer: timestamp, outcome of the request and its rule, and then the lines.
 abbrev pub answer_text : ℕ → Answer → List ℕ
 answer_text moment (Done lines rule) = ended (columns (decimal moment ∷ codes "DONE" ∷ rule_text_or_none rule ∷ []))
     ++ flat_map shown_line lines

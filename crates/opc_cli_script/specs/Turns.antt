@@ -1,4 +1,4 @@
--- What lines come to, and what is printed of that.
+-- The outcomes of lines, and what is printed of them.
 use Rattle.std.specs.Prelude.{◌≡◌, ◌+◌, ◌++◌, ◌∷◌, ℕ, Bool, true, false, List, [], Option, Some, None}
 use Rattle.std.specs.List.{flat_map, list_any}
 use Rattle.std.specs.Option.{option_to_list}
@@ -16,19 +16,19 @@ use Rattle.opc_cli_script.specs.declared.session.Standing.{Standing}
 use Rattle.opc_cli_script.specs.declared.turn.Turn.{Turn}
 use Rattle.opc_cli_script.specs.declared.turn.Turn.TheVariants.{Blank, Bad, Answered}
 
--- The request of a line: a command if it is typed at a console, or what a line of a script is without its moment.
+-- The request of a line: a command if it is typed at a console, or what a line of a script is without its timestamp.
 abbrev pub request_on : Option (List ℕ) → List ℕ → Option Request
 request_on (Some console) line = Some (Command console line)
 request_on None line = untimed_request_in line
 
--- What a line comes to that is read as a text.
+-- The outcome of a line that is read as a text.
 abbrev pub IsTurnOfLine : Option (List ℕ) → List ℕ → Turn → Type 0
 IsTurnOfLine console line Blank = is_blank line ≡ true
 IsTurnOfLine console line Bad = (is_blank line ≡ false) × (request_on console line ≡ None)
 IsTurnOfLine console line (Answered moment request answer) =
     (is_blank line ≡ false) × (request_on console line ≡ Some request)
 
--- What comes to a turn: any line, and one that is no text or too long is bad.
+-- The turn of any line; one that is no text or too long is bad.
 abbrev pub IsTurnOf : Option (List ℕ) → Typed → Turn → Type 0
 IsTurnOf console (Line line) turn = IsTurnOfLine console line turn
 IsTurnOf console NotUtf8 turn = turn ≡ Bad
@@ -58,7 +58,7 @@ abbrev pub answer_of : Turn → Option Answer
 answer_of (Answered moment request answer) = Some answer
 answer_of turn = None
 
--- the requests of turns, with their moments, in order
+-- the requests of turns, with their timestamps, in order
 abbrev pub requests_of : List Turn → List (ℕ × Request)
 requests_of turns = flat_map (λ turn. option_to_list (request_of turn)) turns
 
@@ -81,6 +81,6 @@ abbrev pub IsStandingOf : List Turn → Standing → Type 0
 IsStandingOf turns standing =
     (standing.answered ≡ status_of (answers_of turns)) × (standing.is_bad ≡ list_any is_bad turns)
 
--- What turns come to.
+-- The outcome of turns.
 abbrev pub status_of_turns : List Turn → Status
 status_of_turns turns = status_with (status_of (answers_of turns)) (list_any is_bad turns)

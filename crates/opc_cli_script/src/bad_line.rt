@@ -31,7 +31,7 @@ fn first_word(line: &str) -> &str
     }
 }
 
-/// What is wrong with the parts that follow the moment of a line: who asks, and what.
+/// What is wrong with the parts that follow the timestamp of a line: the console, and the request.
 fn slip_of_request(who: &str) -> Slip
     ensures { result ≡ slip_of_request who.now }
 {
@@ -44,7 +44,7 @@ fn slip_of_request(who: &str) -> Slip
     }
 }
 
-/// What is wrong first with what follows the moment of a line, or with a line without one, if it is no request.
+/// What is wrong first with what follows the timestamp of a line, or with a line without one, if it is no request.
 pub fn slip_after(rest: &str) -> Slip
     ensures { result ≡ slip_after rest.now }
 {
@@ -104,7 +104,7 @@ fn past_word(text: &[u8]) -> &[u8]
     words.split_at(word_len(words)).1
 }
 
-/// What follows the word that is a moment, or stands in its place.
+/// What follows the timestamp, or the word in its place.
 fn past_moment(form: LineForm, line: &[u8]) -> &[u8]
     ensures value { result.now ≡ past_moment form line.now }
     ensures within { length result.now ≤ length line.now }
@@ -135,8 +135,8 @@ fn shown_start(form: LineForm, slip: Slip, line: &[u8]) -> &[u8]
     &line[..line.len() - hidden.len()]
 }
 
-/// A bad line with this number, and what is wrong with it first. What is told of it is a note beside the line that is
-/// printed, of which no clause speaks; the tables of `tools/program` have the words.
+/// A bad line with this number, and what is wrong with it first. What is reported of it is a note beside the line that
+/// is printed, which no clause states; the tables of `tools/program` have the words.
 pub fn bad_line(number: u64, line: &str, slip: Slip, form: LineForm) -> BadLine {
     let start = shown_start(form, slip, line.as_bytes());
     let is_whole = start.len() == line.len();

@@ -1,4 +1,4 @@
-//! Why lines are answered no further.
+//! Why no further lines are answered.
 
 use std::alloc::{AllocError, AllocFailed};
 use std::io;
@@ -7,10 +7,10 @@ use thiserror::Error;
 /// Why no further line is answered.
 #[derive(Clone, Copy, Debug, Error)]
 pub enum NowFault {
-    /// No line is read.
+    /// No line could be read.
     #[error("{0}")]
     Input(io::Error),
-    /// The clock is not read.
+    /// The clock could not be read.
     #[error("{0}")]
     Clock(io::Error),
     /// The output took no more.

@@ -1,4 +1,4 @@
-//! What reading a script means, each law as what a call without a body ensures.
+//! What reading a script means; each law is what a call without a body ensures.
 ghost use Rattle.opc_cli_script.specs.Laws.{EventsAreSpelled, EventsReadBack, SlipsShowNoPassword};
 
 /// An event reads back from its text.
@@ -11,7 +11,7 @@ pub fn events_are_spelled()
     ensures { EventsAreSpelled }
 {}
 
-/// Whatever stands behind the word that is wrong, the same is shown of a bad line: no password of a LOGON.
+/// Whatever stands after the word that is wrong, the same is shown of a bad line: no password of a LOGON.
 pub fn slips_show_no_password()
     ensures { SlipsShowNoPassword }
 {}

@@ -17,7 +17,7 @@ use opc_board::text::KeptText;
 use opc_gate::request::Request;
 use std::alloc::{AllocError, Global};
 
-/// The most digits of a moment.
+/// The most digits of a timestamp.
 pub(crate) const MOMENT_DIGITS: usize = 13;
 
 fn are_digits(bytes: &[u8]) -> bool
@@ -59,7 +59,7 @@ fn request_of(alloc: Global, who: &str, text: &str) -> Result<Option<Request>, A
     }
 }
 
-// The parts of a line: its moment, who asks, and what.
+// The parts of a line: its timestamp, the console, and the request.
 #[tactic(auto, unfolding(crate::specs::Scripts::parts_in))]
 fn parts_in(line: &str) -> Option<(u64, &str, &str)>
     ensures { MatchOption result (parts_in line.now ≡ None)
@@ -78,7 +78,7 @@ pub fn is_blank(line: &str) -> bool
     line.as_bytes().iter().all(|c| *c == b' ')
 }
 
-/// The request of a line, with its moment.
+/// The request of a line, with its timestamp.
 pub fn request_in(alloc: Global, line: &str) -> Result<Option<(u64, Request)>, AllocError>
     ensures { IfOk result (λ request. request ≡ request_in line.now) }
 {
@@ -91,7 +91,7 @@ pub fn request_in(alloc: Global, line: &str) -> Result<Option<(u64, Request)>, A
     }
 }
 
-/// The request of a line without a moment: who asks, one space, and what.
+/// The request of a line without a timestamp: the console, one space, and the request.
 pub fn untimed_request_in(alloc: Global, line: &str) -> Result<Option<Request>, AllocError>
     ensures { IfOk result (λ request. request ≡ untimed_request_in line.now) }
 {

@@ -37,7 +37,7 @@ pub fn write_text<K: Sink>(output: &mut K, text: &str) -> io::Result<()>
     Ok(())
 }
 
-/// Prints each answer of a run, and remembers what the answers come to.
+/// Prints each answer of a run, and remembers the status of the answers.
 #[derive(Drop)]
 pub(crate) struct Printer<'a, K: Sink> {
     pub alloc: Global,

@@ -36,9 +36,9 @@ pub fn print_bad_line<K: Sink>(alloc: Global, number: usize, output: &mut K) -> 
     }
 }
 
-/// Runs a script over a gate, and returns what the answers come to. What is written is the transcript of the access
+/// Runs a script over a gate, and returns the status of the answers. What is written is the transcript of the access
 /// machine's answers. If a line is bad or the script has more than 1,048,576 bytes, that is written, and nothing is
-/// run. If the output fails or memory is refused for an answer's text, the run ends with that request: it is handled,
+/// run. If the output fails or the allocation of an answer's text does, the run ends with that request: it is handled,
 /// and so are those before it, whose answers are written. A failed output is reported if and only if a write to it
 /// failed. A crash leaves what it might have left before, or a state that one of the handled requests makes, as a
 /// whole.

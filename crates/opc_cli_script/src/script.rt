@@ -14,7 +14,7 @@ use thiserror::Error;
 /// The most bytes of a script.
 pub const SCRIPT_LIMIT: u32 = 1_048_576;
 
-/// Why a script is not run to its end.
+/// Why a script was not run to its end.
 #[derive(Clone, Copy, Debug, Error)]
 pub enum ScriptFault {
     /// The line with this number, from 1 on, is neither blank nor a request; 0 stands for a script that is too long or
@@ -88,7 +88,7 @@ fn read_line(
     }
 }
 
-/// The requests of a script with their moments, or its first bad line, or that there was no memory.
+/// The requests of a script with their timestamps, or its first bad line, or a failed allocation.
 pub(crate) fn requests_in(alloc: Global, script: &str) -> Result<Vec<(u64, Request)>, ScriptFault>
     ensures good { OnOk result (bad_line script.now ≡ None) }
     ensures requests { IfOk result (λ requests. requests.items ≡ requests_in script.now) }

@@ -17,14 +17,14 @@ use std::alloc::Global;
 use std::io;
 use std::io::ErrorKind;
 
-/// What the lines so far come to: by their answers, and whether one of them was bad.
+/// The outcome of the lines so far: by their answers, and whether one of them was bad.
 #[derive(Clone, Copy)]
 pub struct Standing {
     answered: Status,
     is_bad: bool,
 }
 
-/// What lines come to, and one more.
+/// The outcome of lines and one more.
 fn standing_after(standing: Standing, turn: &Turn) -> Standing
     ensures { (turns : List TheTurn) → IsStandingOf turns standing → IsStandingOf (turns ++ turn.now ∷ []) result }
 {
@@ -41,22 +41,23 @@ fn standing_after(standing: Standing, turn: &Turn) -> Standing
     }
 }
 
-/// The status of what lines come to.
+/// The status of the outcome of lines.
 fn status_of(standing: Standing) -> Status
     ensures { result ≡ status_with standing.answered standing.is_bad }
 {
     match standing.answered {
         Status::Failed => Status::Failed,
+        // A bad line outweighs every answer but a failure.
         _ if standing.is_bad => Status::BadInput,
         answered => answered,
     }
 }
 
-/// Answers lines one after another, each before the next is read, and returns what they come to once the input has
-/// ended. A line is a command at the console that is given, or else names its console, or is an event. One that is
-/// neither is printed as a bad line, and the next is read. What is printed is what a script would print of the same
-/// requests, at the moments that the clock showed. If the input, the clock or the output fails, no further line is
-/// read; a request whose answer was not printed as a whole is handled.
+/// Answers lines one after another, each before the next is read, and returns their outcome once the input has ended. A
+/// line is a command at the console that is given, or else names its console, or is an event. One that is neither is
+/// printed as a bad line, and the next is read. What is printed is what a script would print of the same requests, at
+/// the times that the clock showed. If the input, the clock or the output fails, no further line is read; a request
+/// whose answer was not printed as a whole is handled.
 pub fn answer_lines<D: Terminal, T: Tables>(
     gate: &mut Gate<T>,
     alloc: Global,

@@ -1,4 +1,4 @@
-//! What a run came to.
+//! The outcome of a run.
 ghost use Rattle.std.specs.Prelude.{◌≡◌, ◌∷◌, ◌++◌, [], List};
 ghost use Rattle.opc_machine.specs.declared.request.Answer.{Answer as TheAnswer};
 ghost use Rattle.opc_cli_script.specs.Statuses.{status_of};

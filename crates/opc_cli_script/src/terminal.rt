@@ -5,9 +5,9 @@ use crate::reading_now::Typed;
 use opc_cli_failures::reason::Reason;
 use std::alloc::Global;
 
-/// What has lines, a clock and a place for answers: a terminal, or a pipe at either end. It is one thing, so that the
-/// chain of its calls has their order. What a function over any of these promises by its relations can only be shown by
-/// the calls that the function makes.
+/// The source of lines, a clock and the sink of answers: a terminal, or pipes. It is one thing, so that the chain of
+/// its calls has their order. Only the calls that a function over any terminal makes can show what it promises by these
+/// relations.
 pub trait Terminal {
     ghost use Rattle.std.specs.Prelude.{
       ◌≡◌,
@@ -28,13 +28,13 @@ pub trait Terminal {
     ghost use Rattle.opc_cli_script.specs.Faults.{is_clock, is_input, is_output};
     ghost use Rattle.opc_cli_script.specs.declared.reading_now.Typed.{Typed as TheTyped};
 
-    /// That this was read.
+    /// This was read.
     ghost reads: { Self → TheTyped → Self → Type 0 };
 
-    /// That the clock showed this moment.
+    /// The clock showed this time.
     ghost dates: { Self → ℕ → Self → Type 0 };
 
-    /// That a text was written, and flushed after that.
+    /// A text was written, and then flushed.
     ghost says: { Self → List ℕ → Self → Type 0 };
 
     /// The bytes that were written, if they are known.
@@ -54,7 +54,7 @@ pub trait Terminal {
         ensures failed { has_failed self.new ≡ has_failed self.old }
         ensures fault { IfErr result (λ fault. is_input fault ≡ true) };
 
-    /// The clock's moment.
+    /// The time of the clock.
     fn moment(&mut self) -> Result<u64, NowFault>
         ensures dated { IfOk result (λ moment. dates self.old moment self.new) }
         ensures same { identity self.new ≡ identity self.old }
@@ -71,6 +71,6 @@ pub trait Terminal {
         ensures failed { has_failed self.new ≡ (if is_err result then true else has_failed self.old) }
         ensures fault { IfErr result (λ fault. is_output fault ≡ true) };
 
-    /// Tells whoever types why a line is bad, elsewhere than among the answers. No clause speaks of that.
+    /// Reports why a line is bad, elsewhere than among the answers. No clause states that.
     fn note(&self, reason: &Reason);
 }

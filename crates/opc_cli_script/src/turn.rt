@@ -1,4 +1,4 @@
-//! One line, and what it comes to.
+//! One line, and its outcome.
 ghost use Rattle.std.specs.Prelude.{◌≡◌, IfErr, IfOk, MatchOption, OnErr, OnOk, Some, true, if◌then◌else◌};
 ghost use Rattle.std.specs.Io.KnownBytes.{Appends};
 ghost use Rattle.opc_cli_script.specs.Running.{AppendsPrefix};
@@ -15,18 +15,20 @@ use crate::reading_now::Typed;
 use crate::terminal::Terminal;
 use crate::transcript::{answer_text, bad_line_text};
 use opc_board::text::KeptText;
+use opc_cli_commands::hint_about;
 use opc_cli_failures::bad_line::LineForm;
 use opc_cli_failures::reason::Reason;
 use opc_gate::gate::Gate;
 use opc_machine::request::{Answer, Request};
 use opc_names::name::ConsoleName;
 use opc_state::tables::Tables;
+use opc_terms::fault::Fault;
 use std::alloc::{AllocError, Global};
 
-/// What a line comes to.
+/// The outcome of a line.
 #[derive(Drop)]
 pub enum Turn {
-    /// It asks for nothing.
+    /// It is blank.
     Blank,
     /// It is no request.
     Bad,
@@ -55,7 +57,26 @@ fn request_on(
     }
 }
 
-/// Handles a request at the clock's moment, and shows its answer.
+/// Shows what helps whoever typed a line that is no command. That is a note beside the answer, of which no clause
+/// speaks.
+fn note_hint<D: Terminal>(alloc: Global, request: &Request, answer: &Answer, terminal: &D) {
+    let Request::Command { text, .. } = request else {
+        return;
+    };
+    let Answer::Refused {
+        fault: Fault::UnknownVerb { .. } | Fault::BadOperand { .. },
+        ..
+    } = answer
+    else {
+        return;
+    };
+    // (without memory the answer alone says that it is none)
+    if let Ok(Some(hint)) = hint_about(alloc, text.as_str()) {
+        terminal.note(&Reason::Hint(hint));
+    }
+}
+
+/// Handles a request at the clock's time, and shows its answer.
 fn answer<D: Terminal, T: Tables>(
     gate: &mut Gate<T>,
     alloc: Global,
@@ -75,6 +96,7 @@ fn answer<D: Terminal, T: Tables>(
     let answer = gate.handle(alloc, moment, &request);
     let text = answer_text(alloc, moment, &answer)?;
     terminal.say(text.as_str())?;
+    note_hint(alloc, &request, &answer, terminal);
     Ok(Turn::Answered {
         moment,
         request,
@@ -82,7 +104,7 @@ fn answer<D: Terminal, T: Tables>(
     })
 }
 
-/// Shows that the line with this number is bad, and tells why.
+/// Shows that the line with this number is bad, and why.
 fn refuse<D: Terminal>(
     alloc: Global,
     number: usize,
@@ -103,7 +125,7 @@ fn refuse<D: Terminal>(
     Ok(Turn::Bad)
 }
 
-/// Why a line is bad that has this number and is no request.
+/// Why the line with this number, which is no request, is bad.
 fn reason_of(number: usize, line: &str) -> Reason {
     let bad = bad_line(number as u64, line, slip_after(line), LineForm::Now);
     Reason::Line(bad)

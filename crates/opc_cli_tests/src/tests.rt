@@ -12,7 +12,7 @@ mod services;
 use std::alloc::AllocError;
 use std::test::Fail;
 
-/// How a test ends if memory was refused to the call that it tests, and with it what the test looks for.
+/// How a test ends if an allocation of the tested call fails, so that the test cannot find what it looks for.
 fn refused_memory() -> Fail {
     Fail::from(AllocError)
 }

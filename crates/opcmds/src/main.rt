@@ -40,8 +40,8 @@ fn status(rt: &HostRuntime) -> u8 {
     }
 }
 
-/// Standard input. If somebody types it at a terminal, and sees standard error there, its first read is announced;
-/// `digest` itself says what it reads.
+/// Standard input. If it is typed at a terminal that also shows standard error, its first read is announced; `digest`
+/// prompts by itself.
 fn input(rt: &HostRuntime, words: &[String]) -> Announced<Stdin, Stderr> {
     let (inner, errors) = (rt.stdin(), rt.stderr());
     let is_typed = inner.is_terminal() && errors.is_terminal();
@@ -66,7 +66,7 @@ fn screen<W: IsTerminal>(rt: &HostRuntime, inner: W) -> Screen<W> {
     }
 }
 
-/// The words of the command line, the program's own name first.
+/// The arguments of the command line, the program's own name first.
 fn given_words(rt: &HostRuntime) -> io::Result<Vec<String>> {
     Ok(env::args(rt)?.collect(rt.alloc())?)
 }

@@ -6,8 +6,8 @@ const OUTPUT: i32 = libc::STDOUT_FILENO;
 
 const ERRORS: i32 = libc::STDERR_FILENO;
 
-/// Opens the null device in the place of each standard stream that is closed. Otherwise the next connection gets its
-/// number, and is read, or written, as the stream. The device is opened the other way round, so that a closed input
+/// Opens the null device in the place of each standard stream that is closed. Otherwise the next connection would get
+/// its number, and be read or written as the stream. The device is opened the other way round, so that a closed input
 /// still cannot be read, nor a closed output written.
 pub fn hold_closed() {
     for (number, access) in [

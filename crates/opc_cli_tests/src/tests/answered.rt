@@ -1,6 +1,6 @@
 //! Lines that are answered one by one, over tables that fail: what is called, in which order.
 use super::refused_memory;
-use super::room::Room;
+use super::room::UserTables;
 use opc_board::text::KeptText;
 use opc_cli_failures::reason::Reason;
 use opc_cli_failures::status::Status;
@@ -17,7 +17,7 @@ use std::test::Fail;
 
 const LINES: [&str; 4] = ["C1 D U", "", "x", "* RESUME"];
 
-/// Types the lines, at moments from 7 on, and takes down what it is called for.
+/// Types the lines, at timestamps from 7 on, and records its calls.
 #[derive(Drop)]
 struct Typist {
     typed: usize,
@@ -75,7 +75,7 @@ impl Terminal for Typist {
     }
 
     fn say(&mut self, text: &str) -> Result<(), NowFault> {
-        // (what is not taken down fails the test)
+        // (a call that is not recorded fails the test)
         let _ = self.calls.push_str(text);
         Ok(())
     }
@@ -90,7 +90,7 @@ fn a_line_is_answered_before_the_next_is_read(rt: HostRuntime) -> Result<(), Fai
         moment: 7,
         calls: String::with_capacity(rt.alloc(), 200)?,
     };
-    let mut gate = Gate::over(Room::failing(rt.alloc()));
+    let mut gate = Gate::over(UserTables::failing(rt.alloc()));
     match answer_lines(&mut gate, rt.alloc(), &None, &mut typist) {
         Ok(status) => assert_eq!(rt; status, Status::Failed),
         Err(fault) => return Err(end_of(&rt, fault)),
@@ -101,7 +101,7 @@ fn a_line_is_answered_before_the_next_is_read(rt: HostRuntime) -> Result<(), Fai
     Ok(())
 }
 
-/// A test that meets a fault ends: as out of memory, or else as failed.
+/// How a test that meets a fault ends: as out of memory, or as failed.
 fn end_of(rt: &impl Abort, fault: NowFault) -> Fail {
     let is_memory = match fault {
         NowFault::Input(error) | NowFault::Clock(error) | NowFault::Output(error) => {

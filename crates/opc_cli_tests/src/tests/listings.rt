@@ -1,5 +1,5 @@
-//! What listings come to, for each kind of user.
-use super::room::Room;
+//! The outcome of listings, for each kind of user.
+use super::room::UserTables;
 use opc_gate_listings::account::account_on;
 use opc_gate_listings::profiles::profiles_on;
 use opc_machine::outcome::Outcome;
@@ -28,7 +28,7 @@ fn profiles_are_listed(rt: HostRuntime) -> Result<(), Fail> {
         ("ANNA", false, false, "C1", "** UACC NONE OWNER FRED/"),
         ("ANNA", false, false, "C2", ""),
     ] {
-        let mut tables = Room::of(rt.alloc(), id, special, auditor, false)?;
+        let mut tables = UserTables::of(rt.alloc(), id, special, auditor, false)?;
         let console = tables.console(&ConsoleName::read(console)?)?;
         let outcome = profiles_on(&mut tables, rt.alloc(), console, Class::Opercmds)?;
         let mut reported = String::new(rt.alloc());
@@ -46,7 +46,7 @@ fn profiles_are_listed(rt: HostRuntime) -> Result<(), Fail> {
 
 #[test]
 fn the_account_is_listed(rt: HostRuntime) -> Result<(), Fail> {
-    let mut tables = Room::of(rt.alloc(), "AUDIT", false, true, false)?;
+    let mut tables = UserTables::of(rt.alloc(), "AUDIT", false, true, false)?;
     let console = tables.console(&ConsoleName::read("C1")?)?;
     let outcome = account_on(&mut tables, rt.alloc(), console, 2, 1)?;
     let mut reported = String::new(rt.alloc());
@@ -62,11 +62,11 @@ fn the_account_is_listed(rt: HostRuntime) -> Result<(), Fail> {
 
 #[test]
 fn listings_are_refused(rt: HostRuntime) -> Result<(), Fail> {
-    let mut tables = Room::of(rt.alloc(), "CARL", false, false, false)?;
+    let mut tables = UserTables::of(rt.alloc(), "CARL", false, false, false)?;
     let console = tables.console(&ConsoleName::read("C1")?)?;
     let outcome = account_on(&mut tables, rt.alloc(), console, 1, 10)?;
     assert_eq!(rt; fault_in(&outcome), Some(Fault::NotSpecial));
-    let mut tables = Room::of(rt.alloc(), "OLD", true, true, true)?;
+    let mut tables = UserTables::of(rt.alloc(), "OLD", true, true, true)?;
     let console = tables.console(&ConsoleName::read("C1")?)?;
     let outcome = profiles_on(&mut tables, rt.alloc(), console, Class::Opercmds)?;
     assert_eq!(rt; fault_in(&outcome), Some(Fault::Revoked));

@@ -1,5 +1,5 @@
 //! How a list of requests is answered over tables that fail.
-use super::room::Room;
+use super::room::UserTables;
 use opc_board::event::Event;
 use opc_gate::gate::Gate;
 use opc_gate::request::{Answer, Request};
@@ -12,7 +12,7 @@ fn each_request_of_a_list_has_its_answer(rt: HostRuntime) -> Result<(), Fail> {
     for moment in 0..3 {
         requests.push((moment, Request::Event(Event::Resume)))?;
     }
-    let mut gate = Gate::over(Room::failing(rt.alloc()));
+    let mut gate = Gate::over(UserTables::failing(rt.alloc()));
     let answers = gate.run(rt.alloc(), requests.as_slice())?;
     assert_eq!(rt; answers.len(), 3);
     for answer in &answers {

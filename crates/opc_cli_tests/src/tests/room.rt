@@ -1,5 +1,5 @@
 //! Tables of a small room: a user is logged on at each console, and may not cancel the job PAYROLL; there are three
-//! profiles to list, and three rows of the account. Or they fail, whatever is asked of them.
+//! profiles to list, and three rows of the account. Or they fail, whatever is called.
 ghost use Rattle.opc_state.specs.State.{State};
 
 use opc_board::rows::{ConsoleRow, DeviceRow, ReplyRow, UnitKind, UnitRow};
@@ -28,16 +28,16 @@ use std::test::Fail;
 /// The rule by which the job is denied.
 pub(super) const RULE: &str = "PROFILE OPERCMDS MVS.CANCEL.JOB.PAY* HELD NONE NEEDED UPDATE";
 
-/// Nothing is promised of them, since they are never sure. What no request of these tests asks for fails.
+/// Nothing is promised of them, since they are never sure. Calls that no request of these tests needs fail.
 #[derive(Drop)]
-pub(super) struct Room {
+pub(super) struct UserTables {
     /// Who is logged on; without a user everything fails.
     user: Option<User>,
     /// What is written to the account, a line for each row.
     pub(super) account: String,
 }
 
-impl Room {
+impl UserTables {
     /// A room of a user with these attributes.
     pub(super) fn of(
         alloc: Global,
@@ -54,7 +54,7 @@ impl Room {
             digest: None,
             restricted: false,
         };
-        Ok(Room {
+        Ok(UserTables {
             user: Some(user),
             account: String::new(alloc),
         })
@@ -66,7 +66,7 @@ impl Room {
     }
 
     pub(super) fn failing(alloc: Global) -> Self {
-        Room {
+        UserTables {
             user: None,
             account: String::new(alloc),
         }
@@ -121,7 +121,7 @@ fn profiles(alloc: Global) -> Result<Vec<Profile>, StoreFault> {
     Ok(all)
 }
 
-impl Tables for Room {
+impl Tables for UserTables {
     ghost meaning = { record { represents = λ _ _. Unit {0}; is_sure = λ _. ⊥; may_leave = λ _ _. Unit {0} } };
 
     fn console(&mut self, name: &ConsoleName) -> Result<Option<ConsoleRow>, StoreFault> {

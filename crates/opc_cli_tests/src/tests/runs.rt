@@ -1,6 +1,6 @@
 //! What is printed over tables that fail, and to writers that fail.
 use super::refused_memory;
-use super::room::Room;
+use super::room::UserTables;
 use opc_cli_failures::status::Status;
 use opc_cli_script::run::run_script;
 use opc_cli_script::script::ScriptFault;
@@ -47,7 +47,7 @@ fn each_request_is_answered(rt: HostRuntime) -> Result<(), Fail> {
         ("   \n \r\n\n", "", Status::Done),
     ] {
         let mut output = Watched::new(Vec::with_capacity(rt.alloc(), 100)?);
-        let mut gate = Gate::over(Room::failing(rt.alloc()));
+        let mut gate = Gate::over(UserTables::failing(rt.alloc()));
         match run_script(&mut gate, rt.alloc(), script, &mut output) {
             Ok(status) => assert_eq!(rt; status, wanted),
             Err(fault) => return Err(end_of(&rt, fault)),
@@ -58,7 +58,7 @@ fn each_request_is_answered(rt: HostRuntime) -> Result<(), Fail> {
     Ok(())
 }
 
-/// A test that meets a fault ends: as out of memory, or else as failed.
+/// How a test that meets a fault ends: as out of memory, or as failed.
 fn end_of(rt: &impl Abort, fault: ScriptFault) -> Fail {
     assert!(rt; matches!(fault, ScriptFault::NoMemory));
     refused_memory()
@@ -75,7 +75,7 @@ fn a_bad_line_is_reported_and_nothing_is_run(rt: HostRuntime) -> Result<(), Fail
         (long.as_str(), "BAD LINE 0\n", 0),
     ] {
         let mut output = Watched::new(Vec::with_capacity(rt.alloc(), 100)?);
-        let mut gate = Gate::over(Room::failing(rt.alloc()));
+        let mut gate = Gate::over(UserTables::failing(rt.alloc()));
         match run_script(&mut gate, rt.alloc(), script, &mut output) {
             Err(ScriptFault::BadLine(number)) => assert_eq!(rt; number, line),
             Err(fault) => return Err(end_of(&rt, fault)),
@@ -91,7 +91,7 @@ fn a_bad_line_is_reported_and_nothing_is_run(rt: HostRuntime) -> Result<(), Fail
 fn stops_at(rt: &(impl AllocGlobal + Abort), room: usize, fails: bool) -> Result<(), Fail> {
     let bytes = Vec::with_capacity(rt.alloc(), PRINTED.len())?;
     let mut output = Watched::new(Narrow { bytes, room, fails });
-    let mut gate = Gate::over(Room::failing(rt.alloc()));
+    let mut gate = Gate::over(UserTables::failing(rt.alloc()));
     match run_script(&mut gate, rt.alloc(), SCRIPT, &mut output) {
         Err(ScriptFault::Output(error)) if fails => {
             assert_eq!(rt; error.kind(), ErrorKind::BrokenPipe);

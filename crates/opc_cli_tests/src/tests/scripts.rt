@@ -1,6 +1,6 @@
 //! The number that a script ends with, and what is printed.
 use super::refused_memory;
-use super::room::{RULE, Room};
+use super::room::{RULE, UserTables};
 use opc_cli::run_script;
 use opc_gate::gate::Gate;
 use opc_http::writer::FailingWriter;
@@ -32,7 +32,7 @@ fn a_script_ends_with_its_number(rt: HostRuntime) -> Result<(), Fail> {
         ("1 * ATTACH 0A80\n", "1 REFUSED E91 Store -\n", 3),
     ] {
         let mut output = Watched::new(Vec::with_capacity(rt.alloc(), 200)?);
-        let mut gate = Gate::over(Room::of_anna(rt.alloc())?);
+        let mut gate = Gate::over(UserTables::of_anna(rt.alloc())?);
         let ended = run_script(rt.alloc(), &mut gate, script, &mut output);
         if ended == 3 && number != 3 {
             return Err(refused_memory());
@@ -51,7 +51,7 @@ fn fails_after(
     account: &str,
 ) -> Result<(), Fail> {
     let mut output = Watched::new(FailingWriter::new(rt.alloc(), 1, writes));
-    let mut gate = Gate::over(Room::of_anna(rt.alloc())?);
+    let mut gate = Gate::over(UserTables::of_anna(rt.alloc())?);
     let ended = run_script(rt.alloc(), &mut gate, REFUSED, &mut output);
     let kept = gate.into_tables().account;
     let written = output.inner.bytes;

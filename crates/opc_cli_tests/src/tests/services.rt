@@ -1,6 +1,6 @@
 //! The number that a service ends with, and what its clients read.
 use super::refused_memory;
-use super::room::{RULE, Room};
+use super::room::{RULE, UserTables};
 use opc_cli::serve_on;
 use opc_gate::gate::Gate;
 use opc_http_requests::routes::Routes;
@@ -13,7 +13,7 @@ use std::rt::Clock;
 use std::test::Fail;
 use std::time::Duration;
 
-/// A command that the user who is on there may not type.
+/// A command that the user who is logged on there may not type.
 const ASKED: &str =
     "POST /consoles/C1/command HTTP/1.1\r\nContent-Length: 20\r\n\r\n{\"text\":\"C PAYROLL\"}";
 
@@ -23,22 +23,22 @@ Content-Length: 126\r\nConnection: close\r\n\r\n";
 
 /// A clock that always reads the same.
 #[derive(Clone, Copy)]
-enum Reading {
+enum ClockReading {
     Seconds(u64),
     Before1970,
     Unreadable,
 }
 
-impl Clock for Reading {
+impl Clock for ClockReading {
     fn monotonic(&self) -> io::Result<Duration> {
         Ok(Duration::from_secs(1))
     }
 
     fn since_1970(&self) -> io::Result<Duration> {
         match self {
-            Reading::Seconds(seconds) => Ok(Duration::from_secs(*seconds)),
-            Reading::Before1970 => Err(io::Error::from(ErrorKind::InvalidData)),
-            Reading::Unreadable => Err(io::Error::from(ErrorKind::PermissionDenied)),
+            ClockReading::Seconds(seconds) => Ok(Duration::from_secs(*seconds)),
+            ClockReading::Before1970 => Err(io::Error::from(ErrorKind::InvalidData)),
+            ClockReading::Unreadable => Err(io::Error::from(ErrorKind::PermissionDenied)),
         }
     }
 }
@@ -69,7 +69,7 @@ fn waiting_client<N: Net>(net: &N, address: SocketAddr) -> io::Result<N::Stream>
     Ok(client)
 }
 
-/// What a client read, and the account, are those of a command that was denied at this moment.
+/// What a client read, and the account, are those of a command that was denied at this time.
 fn expect_denial(
     rt: &(impl AllocGlobal + Abort),
     response: &str,
@@ -99,14 +99,14 @@ fn a_client_over_loopback_reads_its_response(rt: HostRuntime) -> Result<(), Fail
     let routes = all_routes(rt.alloc())?;
     let listener = TcpListener::bind(&rt, "127.0.0.1:0")?;
     for (reading, moment) in [
-        (Reading::Seconds(1_700_000_000), "1700000000"),
-        (Reading::Before1970, "0"),
-        (Reading::Seconds(9_999_999_999_999), "9999999999999"),
-        (Reading::Seconds(10_000_000_000_000), "9999999999999"),
-        (Reading::Seconds(u64::MAX), "9999999999999"),
+        (ClockReading::Seconds(1_700_000_000), "1700000000"),
+        (ClockReading::Before1970, "0"),
+        (ClockReading::Seconds(9_999_999_999_999), "9999999999999"),
+        (ClockReading::Seconds(10_000_000_000_000), "9999999999999"),
+        (ClockReading::Seconds(u64::MAX), "9999999999999"),
     ] {
         let mut client = waiting_client(&rt, listener.local_addr()?)?;
-        let mut gate = Gate::over(Room::of_anna(rt.alloc())?);
+        let mut gate = Gate::over(UserTables::of_anna(rt.alloc())?);
         let host = (reading, rt.alloc());
         let number = serve_on(&host, &listener, 1, &routes, &mut gate);
         assert_eq!(rt; number, 0, "at {moment}");
@@ -119,7 +119,7 @@ fn a_client_over_loopback_reads_its_response(rt: HostRuntime) -> Result<(), Fail
 
 #[test]
 fn nobody_is_served_if_none_is_asked_for(rt: HostRuntime) -> Result<(), Fail> {
-    let mut gate = Gate::over(Room::of_anna(rt.alloc())?);
+    let mut gate = Gate::over(UserTables::of_anna(rt.alloc())?);
     assert_eq!(rt;
         serve_on(&rt, &Deaf, 0, &all_routes(rt.alloc())?, &mut gate),
         0
@@ -129,11 +129,11 @@ fn nobody_is_served_if_none_is_asked_for(rt: HostRuntime) -> Result<(), Fail> {
 
 #[test]
 fn a_service_ends_if_no_client_can_be_accepted(rt: HostRuntime) -> Result<(), Fail> {
-    let mut gate = Gate::over(Room::of_anna(rt.alloc())?);
+    let mut gate = Gate::over(UserTables::of_anna(rt.alloc())?);
     let routes = all_routes(rt.alloc())?;
     assert_eq!(rt; serve_on(&rt, &Deaf, 1, &routes, &mut gate), 3);
     let listener = TcpListener::bind(&rt, "127.0.0.1:0")?;
-    let host = (Reading::Unreadable, rt.alloc());
+    let host = (ClockReading::Unreadable, rt.alloc());
     let _client = waiting_client(&rt, listener.local_addr()?)?;
     assert_eq!(rt; serve_on(&host, &listener, 1, &routes, &mut gate), 3);
     assert!(rt; gate.into_tables().account.is_empty());
@@ -142,13 +142,13 @@ fn a_service_ends_if_no_client_can_be_accepted(rt: HostRuntime) -> Result<(), Fa
 
 #[test]
 fn clients_before_the_fault_are_served(rt: HostRuntime) -> Result<(), Fail> {
-    let mut gate = Gate::over(Room::of_anna(rt.alloc())?);
+    let mut gate = Gate::over(UserTables::of_anna(rt.alloc())?);
     let routes = all_routes(rt.alloc())?;
     let listener = TcpListener::bind(&rt, "127.0.0.1:0")?;
     let mut client = waiting_client(&rt, listener.local_addr()?)?;
-    // One client waits. For the second, who never comes, this listener does not.
+    // One client waits. A second one never comes, and this listener does not wait for it.
     listener.set_nonblocking(true)?;
-    let host = (Reading::Seconds(7), rt.alloc());
+    let host = (ClockReading::Seconds(7), rt.alloc());
     assert_eq!(rt; serve_on(&host, &listener, 2, &routes, &mut gate), 3);
     let response = io::read_to_string(rt.alloc(), &mut client)?;
     let account = gate.into_tables().account;

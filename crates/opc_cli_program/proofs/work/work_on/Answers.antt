@@ -1,10 +1,10 @@
 use Rattle.opc_cli_program.proofs.work.work_on.Goals as goal
 
-pub returns-in-Run-clause-done : goal.returns-in-Run-clause-done
-returns-in-Run-clause-done g c = rw c.in-Run.is c.run_on.ensures.runs
+pub returns-in-Script-clause-done : goal.returns-in-Script-clause-done
+returns-in-Script-clause-done g c = rw (c.in-Run.is, c.in-Script.is) c.run_on.ensures.runs
 
-pub returns-in-Lines-clause-done : goal.returns-in-Lines-clause-done
-returns-in-Lines-clause-done g c = rw c.in-Lines.is c.answer_lines_on.ensures.answers
+pub returns-in-Now-clause-done : goal.returns-in-Now-clause-done
+returns-in-Now-clause-done g c = rw (c.in-Run.is, c.in-Now.is) c.answer_lines_on.ensures.answers
 
 pub returns-in-Import-clause-done : goal.returns-in-Import-clause-done
 returns-in-Import-clause-done g c = rw c.in-Import.is c.import_now.ensures.imports

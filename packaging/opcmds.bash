@@ -7,7 +7,7 @@ _opcmds() {
         return
     fi
     if ((COMP_CWORD == 1)) || [[ ${COMP_WORDS[1]} == help && $COMP_CWORD == 2 ]]; then
-        mapfile -t COMPREPLY < <(compgen -W 'who explain check run serve account import export digest help' -- "$word")
+        mapfile -t COMPREPLY < <(compgen -W 'who explain check run serve account import export digest commands help' -- "$word")
         return
     fi
     if [[ $before == = ]]; then
@@ -25,6 +25,7 @@ _opcmds() {
         import) options='--db --batch --console --help' ;;
         export) options='--db --help' ;;
         digest) options=--help ;;
+        commands) options=--help ;;
         *) return ;;
     esac
     case "${COMP_WORDS[1]} $before" in
@@ -49,6 +50,9 @@ _opcmds() {
         "import --db") compopt -o filenames; mapfile -t COMPREPLY < <(compgen -f -- "$word"); return ;;
         "import --batch" | "import --console") return ;;
         "export --db") compopt -o filenames; mapfile -t COMPREPLY < <(compgen -f -- "$word"); return ;;
+    esac
+    case ${COMP_WORDS[1]} in
+        who | explain | check | run | import) [[ $word == -* ]] || { compopt -o filenames; mapfile -t COMPREPLY < <(compgen -f -- "$word"); return; } ;;
     esac
     # an option that was given is not given again
     for given in "${COMP_WORDS[@]:2:COMP_CWORD - 2}"; do

@@ -37,5 +37,5 @@ def refused(code: str, text: str, rule: str = "-") -> bytes:
 
 
 def unread(status: int, allow: str | None = None) -> bytes:
-    """A refusal of what does not read as a request."""
+    """A refusal of what is no valid request."""
     return response(status, {"code": f"H{status}", "rule": "-", "status": "refused", "text": PHRASES[status]}, allow)

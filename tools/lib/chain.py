@@ -5,7 +5,7 @@ from typing import Iterable, NamedTuple
 
 from .clone import crates_of_tests
 
-ROW = re.compile(r"(?m)^\| `(opc\w*)` \| (~?)(\d+\.\d) \| (\d+\.\d)? *\| ?([^|]*?) ?\|$")
+ROW = re.compile(r"(?m)^(opc\w*) +(~?)(\d+\.\d)(?: +(\d+\.\d))?(?: +(\d+ in \d+\.\d))?$")
 EDITS = re.compile(r"(\d+) in (\d+\.\d)")
 REPORTED = re.compile(r"(?m)^(opc\w*) +(\d+\.\d) +(\d+\.\d) *(\d+ in \d+\.\d)?$")
 
@@ -14,23 +14,20 @@ MOST_CODE, MOST_EDITS, MOST_CHAIN = 110, 170, 36
 PAGE = """\
 # The minutes of each crate
 
-`tools/chain --write FILE` makes this page of what `tools/test` printed into FILE, and `tools/selftest` checks it. All \
-figures are minutes of CPU time.
+`tools/chain --write FILE` makes this page of what `tools/test` printed into FILE. All figures are minutes of CPU time.
 
-| What | Target | Result |
+| What | Target, at most | Result |
 |---|---|---|
 {budgets}
 
 {sentence}
 
-- **code**: to prove the crate, and to compile a program.
-- **tests**: to compile and run a crate of tests, without a proof.
-- **must-fail edits**: how many were tried, and the minutes of all of them.
-- `~`: of a later run than the others. An empty cell: the crate has nothing of the kind.
+**code** is to prove the crate and to compile a program, **tests** to compile and run a crate of tests without a \
+proof, **edits** to try so many must-fail edits. A `~` marks a later run than the others.
 
-| Crate | code | tests | must-fail edits |
-|---|---|---|---|
+```
 {rows}
+```
 """
 
 # by crates, those of the repository that each stands on, after which it comes
@@ -111,8 +108,8 @@ def merged(old: dict[str, Minutes], new: dict[str, Minutes], counts: dict[str, i
     return {name: found[name] for name in counts if name in found}
 
 
-def cells_of(took: Minutes) -> str:
-    return f"{'~' if took.is_later else ''}{took.code:.1f} | {f'{took.tests:.1f}' if took.tests else ''} | {took.edits}"
+def cells_of(took: Minutes) -> tuple[str, str, str]:
+    return f"{'~' if took.is_later else ''}{took.code:.1f}", f"{took.tests:.1f}" if took.tests else "", took.edits
 
 
 def total_of(took: Iterable[Minutes]) -> Minutes:
@@ -124,13 +121,14 @@ def total_of(took: Iterable[Minutes]) -> Minutes:
 
 
 def rows_of(took: dict[str, Minutes]) -> list[str]:
-    """The rows of the table, the last with the sums."""
-    rows = [f"| `{name}` | {cells_of(it)} |" for name, it in took.items()]
-    return [*rows, f"| all | {cells_of(total_of(took.values()))} |"]
+    """The rows of the table, the first with what they have and the last with the sums."""
+    cells = [(name, *cells_of(it)) for name, it in [*took.items(), ("all", total_of(took.values()))]]
+    rows = [("crate", "code", "tests", "edits"), *cells]
+    return [f"{name:24}{code:>6}{tests:>7}  {edits}".rstrip() for name, code, tests, edits in rows]
 
 
 def budget_of(what: str, most: int, minutes: float) -> str:
-    return f"| {what} | at most {most} | {minutes:.1f}: {'met' if minutes <= most else 'missed'} |"
+    return f"| {what} | {most} | {minutes:.1f}: {'met' if minutes <= most else 'missed'} |"
 
 
 def page_of(below: Below, took: dict[str, Minutes]) -> str:

@@ -3,7 +3,7 @@ import hashlib
 
 from lib.places import WIDE_HEADER
 
-# without a digest no user gets on anywhere, so nobody may
+# without a digest no user can log on anywhere, so nobody may
 DIGEST = hashlib.sha256(b"ABC").hexdigest()
 ENQUIRY = ["who", "--command", "D A,L"]
 
@@ -28,5 +28,5 @@ def last_line(count: int) -> bytes:
     raised = count * count
     return (
         f"0 of {count} users, {raised} of {raised} at one console alone, "
-        f"{count} of {count} consoles with nobody on\n"
+        f"{count} of {count} unattended consoles\n"
     ).encode()

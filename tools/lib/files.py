@@ -33,13 +33,13 @@ def script(lines: Iterable[str], file: str, faults: dict[str, str] | None = None
     return run(script_words(file, policy), "".join(lines), faults)
 
 
-def made(file: str) -> str:
-    """What an export says that made the tables of a file."""
-    return f"opcmds: database {file}: made now, without a policy\n"
-
-
-def tables(file: str) -> dict[str, list[str]]:
+def tables(file: str, more: str = "") -> dict[str, list[str]]:
     """All rows of all tables, as any program reads them."""
-    with contextlib.closing(sqlite3.connect(f"file:{file}?mode=ro", uri=True)) as base:
+    with contextlib.closing(sqlite3.connect(f"file:{file}?mode=ro{more}", uri=True)) as base:
         names = [name for (name,) in base.execute("SELECT name FROM sqlite_master WHERE type = 'table' ORDER BY name")]
         return {name: sorted(map(repr, base.execute(f"SELECT * FROM {name}"))) for name in names}
+
+
+def tables_alone(file: str) -> dict[str, list[str]]:
+    """The same of the database file alone, as in a copy without its log."""
+    return tables(file, "&immutable=1")

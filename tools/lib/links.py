@@ -26,14 +26,27 @@ def anchors_of(path: str) -> set[str]:
     return anchors
 
 
+def place_of(path: str, link: str) -> str:
+    """Where a link of a page leads, without its anchor."""
+    file = link.partition("#")[0]
+    return os.path.normpath(os.path.join(os.path.dirname(path), file)) if file else path
+
+
+def links_in(path: str) -> list[str]:
+    """The links of a page that lead to places of the tree."""
+    return [link for link in LINK.findall(text_of(path)) if not OTHER.match(link)]
+
+
+def leads_in(path: str) -> list[str]:
+    """Where the links of a page lead in the tree."""
+    return [place_of(path, link) for link in links_in(path)]
+
+
 def dead_in(path: str, top: str) -> list[str]:
     """The links of a page that lead nowhere, or out of the folder `top`."""
     dead = []
-    for link in LINK.findall(text_of(path)):
-        if OTHER.match(link):
-            continue
-        file, _, anchor = link.partition("#")
-        there = os.path.normpath(os.path.join(os.path.dirname(path), file)) if file else path
+    for link in links_in(path):
+        anchor, there = link.partition("#")[2], place_of(path, link)
         is_within = there.startswith(f"{os.path.normpath(top)}/")
         if not (is_within and os.path.exists(there)) or anchor and anchor not in anchors_of(there):
             dead.append(f"{os.path.relpath(path, top)}: {link}")

@@ -1,4 +1,5 @@
-"""Makes a database of version 1 or 2 with the rows of one of version 3, by the statements of docs/rules/tables.md.
+"""Makes a database of version 1 or 2 with the rows of one of version 3, by the statements of docs/rules/tables.md, and
+by its own where an older version differs.
 
 tools/program and tools/stops open such files and compare them with the file whose rows they have.
 examples/older/version-2.db was written by a program of version 2, from examples/scripts/first-look.script."""
@@ -11,17 +12,33 @@ import sys
 
 from lib.places import TOP
 
-# (the three lists of statements: all of version 3, and those in which version 2 and version 1 differ)
 BLOCK = re.compile(r"^```sql\n(.*?)^```$", re.M | re.S)
 TABLE = re.compile(r"^CREATE TABLE (\w+) .*;$", re.M)
+# the statements in which an older version differs from the next one
+OLDER = {
+    2: (
+        "CREATE TABLE usr (id TEXT NOT NULL PRIMARY KEY, special INTEGER NOT NULL, auditor INTEGER NOT NULL, "
+        "revoked INTEGER NOT NULL, digest BLOB) STRICT;",
+        "CREATE TABLE profiles (class TEXT NOT NULL, pattern TEXT NOT NULL, owner TEXT NOT NULL REFERENCES "
+        "usr, uacc INTEGER NOT NULL, warning INTEGER NOT NULL, skey BLOB NOT NULL, head TEXT NOT NULL, "
+        "PRIMARY KEY (class, pattern), UNIQUE (class, skey), UNIQUE (class, head, skey)) STRICT;",
+        "CREATE TABLE entries (class TEXT NOT NULL, pattern TEXT NOT NULL, id TEXT NOT NULL, level INTEGER "
+        "NOT NULL, PRIMARY KEY (class, pattern, id), FOREIGN KEY (class, pattern) REFERENCES profiles ON "
+        "DELETE CASCADE) STRICT;",
+    ),
+    1: (
+        "CREATE TABLE profiles (class TEXT NOT NULL, pattern TEXT NOT NULL, owner TEXT NOT NULL REFERENCES "
+        "usr, uacc INTEGER NOT NULL, warning INTEGER NOT NULL, PRIMARY KEY (class, pattern)) STRICT;",
+    ),
+}
 
 
 def statements(version: int) -> dict[str, str]:
     """The statement of each table of a version, in the order in which they are made."""
     with open(f"{TOP}/docs/rules/tables.md") as file:
-        lists = BLOCK.findall(file.read().split("\n## The statements\n")[1].split("\n## ")[0])
+        newest = BLOCK.findall(file.read().split("\n## The statements\n")[1].split("\n## ")[0])
     made = {}
-    for one in lists[: 4 - version]:
+    for one in (newest[0], *("\n".join(OLDER[older]) for older in (2, 1) if older >= version)):
         made.update({found[1]: found[0] for found in TABLE.finditer(one)})
     return made
 

@@ -68,6 +68,9 @@ class Repository(unittest.TestCase):
     def test_nothing(self) -> None:
         self.write("crates/opc_low/out/kept", "")
         self.assertEqual(changes_since(self.top, "HEAD"), Changes("HEAD", [], []))
+        self.write("crates/opc_low/README.md", "")
+        self.assertEqual(changes_since(self.top, "HEAD"), Changes("HEAD", [], ["crates/opc_low/README.md"]))
+        os.remove(f"{self.top}/crates/opc_low/README.md")
 
     def test_not_staged_staged_and_new_files_lowest_first(self) -> None:
         self.write("crates/opc_side/specs/A.antt", "")
@@ -149,23 +152,25 @@ class Runs(unittest.TestCase):
             "layout opc_low: passed",
             "layout opc_middle: passed",
             "layout opc_low_cases: passed",
-            "selftest test_documents test_crates test_minutes test_commands test_proved_page: good",
+            "selftest test_documents test_crates test_minutes test_commands test_proved_page test_sources: good",
             "doubles HEAD: good",
             "rt check opc_low: good",
             "rt check opc_middle: good",
             "crate-tests opc_low_cases: good",
+            "edits --read opc_low opc_middle: good",
             "not run: tools/crate-tests opc_high_tests (--tests runs it)",
             "not run: tools/edits opc_low opc_middle (--edits runs it)",
             "not run: tools/scripts, tools/cases and tools/program, for what the program prints",
-            "7 passed, 0 failed",
+            "8 passed, 0 failed",
         ]
         self.assertEqual(self.ran(["opc_low", "opc_middle", "opc_low_cases"]), (wanted, 0))
         self.assertIn("rt check TOP/crates/opc_low", self.asked)
 
     def test_tests_and_edits_if_they_are_asked_for(self) -> None:
         lines, status = self.ran(["opc_middle"], tests=True, edits=True)
-        self.assertEqual(lines[-4:-2], ["crate-tests opc_high_tests: good", "edits opc_middle: good"])
-        self.assertEqual((lines[-1], status), ("5 passed, 0 failed", 0))
+        wanted = ["crate-tests opc_high_tests: good", "edits --read opc_middle: good", "edits opc_middle: good"]
+        self.assertEqual(lines[-5:-2], wanted)
+        self.assertEqual((lines[-1], status), ("6 passed, 0 failed", 0))
 
     def test_what_stands_on_a_failure_is_not_tried(self) -> None:
         changed = ["opc_low", "opc_high", "opc_side"]
@@ -174,12 +179,12 @@ class Runs(unittest.TestCase):
         at = lines.index("rt check opc_low: bad")
         self.assertEqual(lines[at + 1 : at + 3], ["  why", "rt check opc_side: good"])
         self.assertEqual(lines[lines.index("layout opc_side: failed") + 1], "  a fault")
-        self.assertEqual((lines[-1], status), ("4 passed, 2 failed", 1))
+        self.assertEqual((lines[-1], status), ("5 passed, 2 failed", 1))
 
     def test_doubles_are_no_verdict(self) -> None:
         lines, status = self.ran(["opc_side"], fails=("doubles",))
         self.assertIn("doubles HEAD: bad", lines)
-        self.assertEqual((lines[-1], status), ("3 passed, 0 failed", 0))
+        self.assertEqual((lines[-1], status), ("4 passed, 0 failed", 0))
 
 
 class Results(unittest.TestCase):

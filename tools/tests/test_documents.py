@@ -6,7 +6,7 @@ import re
 import subprocess
 import unittest
 
-from lib.links import anchors_of, dead_in
+from lib.links import anchors_of, dead_in, leads_in
 from lib.model import account
 from lib.sessions.pages import files_in
 
@@ -20,6 +20,7 @@ NAME = re.compile(r"\b(?:[a-z]+_[a-z_]+|[A-Z][a-z]+(?:[A-Z][a-z]*)+)\b")
 LOGON = re.compile(r"\b\d+ (\w+) (LOGON|LOGOFF)\b")
 LONGEST_REASON = 60
 README_WORDS, README_LINES = 1_500, 150
+MOST_ENTRIES = 60
 
 
 def text_of(path: str) -> str:
@@ -31,6 +32,7 @@ def documents() -> list[str]:
     folders = [TOP, f"{TOP}/docs", f"{TOP}/examples"]
     for folder, below, _ in os.walk(f"{TOP}/docs"):
         folders += [os.path.join(folder, it) for it in below]
+    folders += [it.path for it in os.scandir(f"{TOP}/crates") if it.is_dir()]
     return [f"{folder}/{name}" for folder in folders for name in sorted(os.listdir(folder)) if name.endswith(".md")]
 
 
@@ -42,7 +44,7 @@ def names_of_the_code() -> set[str]:
             below[:] = [it for it in below if it not in ("out", "__pycache__")]
             names.update(re.findall(r"\w+", " ".join([*below, *files])))
             for file in files:
-                if not file.endswith((".db", ".pyc")):
+                if not file.endswith((".db", ".pyc", ".md")):
                     names.update(re.findall(r"\w+", text_of(f"{folder}/{file}")))
     return names
 
@@ -70,6 +72,14 @@ class Documents(unittest.TestCase):
 
     def test_links_hold(self) -> None:
         self.assertEqual([it for path in documents() for it in dead_in(path, TOP)], [])
+
+    def test_installed_pages_lead_to_installed_ones(self) -> None:
+        rows = [line.split() for line in text_of(f"{TOP}/packaging/files").splitlines() if not line.startswith("#")]
+        installed = {source for _, source, _ in rows}
+        pages = [f"{TOP}/{source}" for source in sorted(installed) if source.endswith(".md")]
+        self.assertEqual([path for path in documents() if "/docs/" in path and path not in pages], [])
+        led = [(path, os.path.relpath(there, TOP)) for path in pages for there in leads_in(path)]
+        self.assertEqual([it for it in led if not any(f"{file}/".startswith(f"{it[1]}/") for file in installed)], [])
 
     def test_names_are_those_of_the_code(self) -> None:
         known = names_of_the_code()
@@ -106,6 +116,20 @@ class Documents(unittest.TestCase):
         found = re.findall(r"(?m)^(\d+)\. \*\*(.+?)\*\* ?(.*)$", text_of(f"{TOP}/docs/DECISIONS.md"))
         self.assertEqual([int(number) for number, _, _ in found], list(range(1, len(found) + 1)))
         self.assertEqual([number for number, _, reason in found if len(reason.split()) > LONGEST_REASON], [])
+
+    def test_glossary_is_short(self) -> None:
+        entries = re.findall(r"(?m)^- \*\*(.+?)\*\*(.*)$", text_of(f"{TOP}/docs/GLOSSARY.md"))
+        self.assertLessEqual(len(entries), MOST_ENTRIES)
+        self.assertEqual([word for word, rest in entries if ". " in rest.replace("..", "")], [])
+
+    def test_wrong_models_are_edits_that_change_the_law(self) -> None:
+        folder = f"{TOP}/crates/opc_machine_laws/must-fail"
+        lines = re.findall(r"(?m)^- `(\w+)`: (.*)$", text_of(f"{TOP}/docs/LAWS.md"))
+        edits = [edit for _, rest in lines for edit in re.findall(r"\(`(\w+)`\)", rest)]
+        self.assertGreater(len(edits), 60)
+        self.assertEqual([it for it in edits if not os.path.exists(f"{folder}/{it}.edit")], [])
+        index = text_of(f"{TOP}/docs/promises.md")
+        self.assertEqual([law for law, _ in lines if f"::{law}`" not in index], [])
 
     def test_each_script_is_in_the_index(self) -> None:
         index = text_of(f"{TOP}/examples/README.md")

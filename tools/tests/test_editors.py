@@ -11,7 +11,7 @@ import unittest
 from lib import crates
 from lib.places import TOP
 
-ROW = re.compile(r"(?m)^\| ([^|]+) \| [\d,]+ \| ([^|]+) \| ([^|]+) \| ([^|]+) \|$")
+ROW = re.compile(r"(?m)^(\S) +(\S+) +(\S+) +(\S+)$")
 DIGRAPHS = re.compile(r"(?m)^digraphs (.*)$")
 # of no text file: its bytes are not UTF-8
 BINARY = ".db"
@@ -46,16 +46,12 @@ class Signs(unittest.TestCase):
         text = "".join(text for name in crates.crates() for text in crates.sources(name).values())
         # (quotation marks of texts are no signs of the language)
         signs = {sign for sign in {*text} if ord(sign) > 127 and unicodedata.category(sign) not in ("Pi", "Pf")}
-        listed = {sign for row in ROW.findall(page()) for sign in row[0].split()}
-        self.assertEqual(sorted(listed), sorted(signs))
+        self.assertEqual(sorted(sign for sign, *_ in ROW.findall(page())), sorted(signs))
 
     def test_digraphs_of_vim(self) -> None:
         words = DIGRAPHS.search(page())[1].split()
         made = dict(zip(words[::2], (chr(int(number)) for number in words[1::2])))
-        typed = {
-            keys.strip("`"): sign
-            for signs, _, _, vim in ROW.findall(page()) for sign, keys in zip(signs.split(), vim.split(), strict=True)
-        }
+        typed = {keys: sign for sign, _, _, keys in ROW.findall(page())}
         self.assertEqual(made, {keys: typed.get(keys) for keys in made})
 
 

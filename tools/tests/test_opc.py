@@ -133,13 +133,10 @@ def rows_of(page: str, heading: str) -> list[list[str]]:
 
 
 def operands() -> list[tuple[str, str]]:
-    """The verbs in capitals, each with one form of its operands."""
-    found, verb = [], ""
-    for first, second, _ in rows_of("commands.md", "| Verb | Operands | What the command does |"):
-        verb = first or verb
-        forms = re.findall(r"`([^`]+)`", second) or [""]
-        found += [(it, form.upper()) for it in re.findall(r"`([^`]+)`", verb) for form in forms]
-    return found
+    """The verbs of the commands in capitals, each with one form of its operands, or with none."""
+    rows = rows_of("commands.md", "| Command | Group | Level | Resource |")
+    found = [form.partition(" ") for forms, *_ in rows for form in re.findall(r"`([^`]+)`", forms)]
+    return [(verb, form.upper()) for verb, _, form in found]
 
 
 class Prompt(unittest.TestCase):
@@ -165,6 +162,16 @@ class Prompt(unittest.TestCase):
             self.assertEqual(ran("D U\n", "--socket", by_socket.at, "C#$@")[0], 0)
         paths = [head.split(" ")[1] for head in [*gate.heads, *by_socket.heads]]
         self.assertEqual(paths, ["/consoles/C%23%24%40%23/command"] * 2 + ["/consoles/C%23%24%40/command"])
+
+    def test_names_of_consoles_are_in_capitals(self) -> None:
+        with tempfile.TemporaryDirectory() as room:
+            with Listener(response(QUIET), path=f"{room}/gate") as gate:
+                ran("D U\n", "--socket", gate.at, "op1")
+        with Listener(response(QUIET), response(QUIET)) as other:
+            ran("D U\n", other.url("op1"))
+            ran("D U\n", f"http://{other.at}/desk/op1")
+        lines = ["/consoles/OP1/command", "/consoles/OP1/command", "/desk/op1/command"]
+        self.assertEqual([*gate.lines, *other.lines], [f"POST {path}" for path in lines])
 
     def test_what_a_terminal_would_act_on(self) -> None:
         lines = ["\x1b[2J\x00\x7f\x9b", "\u202e\u200b\u2028\U000e0041\ufeff\xad", "a\n-- X", "é\\€\U0001f600"]
@@ -306,7 +313,7 @@ class Prompt(unittest.TestCase):
         listed["PM"] = ["JOBNAMES"] if "PM JOBNAMES" in commands else []
         wanted: dict[str, list[str]] = {}
         for verb, form in operands():
-            wanted[verb] = [*wanted.get(verb, []), form.replace("NONE", "")]
+            wanted[verb] = [*wanted.get(verb, []), form]
         self.assertEqual(listed.pop("?"), [""])
         self.assertEqual(listed, wanted)
 

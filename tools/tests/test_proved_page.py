@@ -5,7 +5,7 @@ from lib import crates
 from lib.links import anchors_of
 from lib.places import TOP
 from lib.repo import proved
-from lib.repo.proved import Function, functions_in, is_public, line_of, part_of, public_in, quoted, section_of
+from lib.repo.proved import Function, brief, functions_in, is_public, part_of, public_in, quoted, section_of
 
 SOURCE = '''\
 /// It. More of
@@ -76,15 +76,28 @@ class ProvedPage(unittest.TestCase):
         self.assertEqual(found[0], Function("of::it", "It. More of it.", ["given", "", "one"], False))
         self.assertEqual(found[1], Function("of::is_so", "A law.", [""], True))
         self.assertEqual(found[2], Function("of::Thing::new", "A thing of which more is to be said here.", [], False))
-        self.assertEqual([it.has_line for it in found], [True, True, False, True, False])
-        self.assertEqual(line_of(found[0]), "- `of::it` (`given`, `one`): It. More of it.")
+        self.assertEqual(found[3].sentence, "Of a plain clause this is said, at some length.")
+
+    def test_sentences_end_where_what_follows_explains(self) -> None:
+        ends = {
+            "Each row of it is kept there: all that were.": "Each row of it is kept there.",
+            "It is short: so this stays, too.": "It is short: so this stays, too.",
+            "It is refused (E30 to E42), and else acts.": "It is refused, and else acts.",
+            "What of it is left there is left, so nothing comes.": "What of it is left there is left.",
+        }
+        self.assertEqual({it: brief(it) for it in ends}, ends)
+
+    def test_laws_are_said_by_their_names_or_in_words(self) -> None:
+        laws = {"laws::heads_are_prefixes": "What each pattern covers begins with it.", "laws::rows_stay": "Rows stay."}
+        found = proved.lines_of([Function(*it, [""], True) for it in laws.items()])
+        words = "- `laws::heads_are_prefixes`: What each pattern covers begins with it."
+        self.assertEqual(found, [words, "- `laws::rows_stay`"])
 
     def test_parts_are_read(self) -> None:
         self.assertEqual(part_of("impl<T: Tables> Gate<Cached<T>> {"), ("Gate", ""))
         self.assertEqual(part_of("impl<F: Fn(u8) -> u8> From<F> for Fault {"), ("Fault", "From"))
         self.assertEqual(part_of("pub trait Tables {"), ("Tables", ""))
         self.assertEqual(part_of("    pub fn it() {"), ("", ""))
-        self.assertEqual(proved.traits_in(SOURCE), [("Thing", "Tables"), ("R", "Source")])
 
     def test_what_is_public(self) -> None:
         library = "mod of;\npub mod laws;\n\npub use crate::of::{Thing,\n    it};\n"
@@ -97,10 +110,8 @@ class ProvedPage(unittest.TestCase):
     def test_sections_are_written(self) -> None:
         files = {"": "//! What it\n//! is. More.\npub mod of;\npub use of::Thing;\n", "of": SOURCE}
         self.assertEqual(
-            section_of("opc_it", files, {"Tables", "Source"}),
-            "## `opc_it`\n\nWhat it is. More.\n\n- `of::it` (`given`, `one`): It. More of it.\n"
-            "- `of::is_so`: A law.\n- `of::plain`: Of a plain clause this is said, at some length.\n\n"
-            "Others with clauses: `of::short`.\n\n"
-            "Without a clause: `of::Thing::new`.\n\nKeep what a trait promises: `Tables` (`Thing`).",
+            section_of("opc_it", files, {"given"}),
+            "## `opc_it`\n\n- `of::is_so`: A law.\n\n`of`: `it` (`given`), `Thing::new`, `plain`, `short`.\n\n"
+            "Without a clause: `of::Thing::new`.",
         )
         self.assertEqual(quoted(["a", "b"]), "`a`, `b`")

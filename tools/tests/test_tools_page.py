@@ -10,7 +10,7 @@ PYTHON = '''\
 more. How long: 2.5 seconds. It is good.
 
   it-all             another tool
-  it [--all | --most N] [--seed
+  it [--all] [--seed
      S]              not a second line of the call
   it -- NAME         one
 
@@ -32,10 +32,11 @@ class Page(unittest.TestCase):
 
     def test_heads_are_read(self) -> None:
         found = tool_of("it", PYTHON)
-        self.assertEqual(found.call, "tools/it [--all | --most N] [--seed")
+        self.assertEqual(found.call, "tools/it [--all] [--seed")
         self.assertEqual(found[2:], ("Tries all of it.py, and more.", "2.5 seconds", True))
         self.assertEqual(tool_of("it", BASH), Tool("it", "tools/it NAME PART..", "Prints one.", "", False))
         self.assertEqual(tool_of("it", LONG).call, "tools/it [--one] [NAME..]")
+        self.assertEqual(tool_of("it", LONG.replace("[--one]", "[--one N] [--two N]")).call, "tools/it ..")
         self.assertEqual(tool_of("it", '#!/usr/bin/env python3\n"""It."""\n').call, "tools/it")
 
     def test_rows_are_written(self) -> None:

@@ -1,6 +1,6 @@
 """What a count of instructions does not show: misses of caches and branches that are predicted wrongly, as valgrind
 simulates them. The first caches are those of most processors of the last ten years, the last one is the second cache of
-the computer on which docs/performance/commands.md has them."""
+the computer on which the figures of docs/performance/commands.md were taken."""
 import re
 import subprocess
 import sys

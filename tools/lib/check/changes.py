@@ -47,7 +47,8 @@ def changes_since(top: str, named: str) -> Changes:
     differing = git(top, "diff", "--name-only", "--no-renames", "-z", commit, "--")
     new = git(top, "ls-files", "-o", "--exclude-standard", "-z")
     files = sorted({*differing.split("\0"), *new.split("\0")} - {""})
-    changed = {path.split("/")[1] for path in files if path.startswith("crates/")}
+    # (a README is a document)
+    changed = {path.split("/")[1] for path in files if path.startswith("crates/") and not path.endswith("/README.md")}
     known = lines_of(top)
     if CRATES in files:
         has_rows = git(top, "ls-tree", "--name-only", commit, CRATES)

@@ -7,13 +7,13 @@ code of another function, unless the two are in one cycle of calls. So the diges
 - the name of the edit, and its texts;
 - the edit's function, and the files of that function's own proof;
 - of its crate and of each crate below: the line of crates.txt, specs/ and proofs/ but for the files that prove one
-  function, and src/ without comments and bodies. Clauses, attributes, types, constants, derives, heads of impls and
-  traits all count;
+  function, and src/ without bodies. Clauses, attributes, types, constants, derives, heads of impls and traits all
+  count;
 - of an edit that lies in no one function: every text of its crate.
 
-Of some functions more is seen than what they state (`is_seen`); their bodies count. The digest needs no build, and is
-the same on each computer. It does not cover a kit that was changed and kept its KIT-ID, nor the memory of the computer:
-a prover that runs out of memory refuses nothing."""
+Lines that are comments do not count. Of some functions more is seen than what they state (`is_seen`); their bodies
+count. The digest needs no build, and is the same on each computer. It does not cover a kit that was changed and kept
+its KIT-ID, nor the memory of the computer: a prover that runs out of memory refuses nothing."""
 import functools
 import hashlib
 import os
@@ -29,8 +29,8 @@ from .sources import BLOCK, Function, functions
 JUDGES = ("digest", "edit", "nearby", "prover", "sources", "stubs", "subjects", "trial", "twins", "verdicts")
 OF_ONE_FUNCTION = ("Answers.antt", "Invariants.antt", "Proof.antt")
 ITEM = re.compile(r"\s+(?:unsafe )?(impl|trait|mod)\b")
-# the texts of a crate that count, with their paths: of src/ as lines
-Stated = list[tuple[str, list[str] | str]]
+# the lines of a crate that count, with the paths of their files
+Stated = list[tuple[str, list[str]]]
 
 
 def sum_of(*parts: object) -> str:
@@ -81,6 +81,11 @@ def stated_in(text: str, spared: Container[tuple[str, str]] = ()) -> list[str]:
     return bare(made)
 
 
+def lines_in(path: str, text: str) -> list[str]:
+    """The lines of a text of a crate that count."""
+    return bare(text.split("\n"), "//" if path.startswith("src/") else "--")
+
+
 def proves_one(path: str) -> bool:
     return path.startswith("proofs/") and path.rsplit("/", 1)[-1] in OF_ONE_FUNCTION
 
@@ -96,7 +101,7 @@ def stated_by(
         if path.startswith("src/"):
             found.append((path, stated_in(text, spared(path))))
         elif not proves_one(path) or own(path):
-            found.append((path, text))
+            found.append((path, lines_in(path, text)))
     return found
 
 
@@ -112,7 +117,7 @@ def stated_below(folder: str) -> str:
 def own_texts(edit: Edit, texts: dict[str, str]) -> Stated:
     """What counts of the edit's own crate."""
     if edit.function is None or any("#[cycle" in line for line in head_of(edit, texts)):
-        return sorted(texts.items())
+        return [(path, lines_in(path, text)) for path, text in sorted(texts.items())]
     name, key = edit.function.name, edit.function.key()
     return stated_by(
         texts,

@@ -16,7 +16,7 @@ UNREAD = Sent("GET", "/", size=0)  # what the model takes for a head that is non
 
 
 def sent(data: bytes) -> Sent:
-    """What was sent, for the model; a head that does not read is one that is cut."""
+    """What was sent, for the model; an invalid head is one that is cut."""
     found = HEAD.match(data[:MOST])
     if not found:
         return UNREAD

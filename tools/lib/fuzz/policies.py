@@ -82,7 +82,10 @@ def wants_reason(ran: Ran, fault: str | None, called: str, data: bytes) -> None:
         return
     line = ran.said.decode(errors="backslashreplace").split("\n")[1]
     _, _, row, _ = fault.split(" ")
-    wanted = f"opcmds: {called}, row {row}: " if row != "0" else f"opcmds: {called}: {reason_of_header(data)}"
+    if row != "0":
+        wanted = f"opcmds: {called}, row {row}, line {files.lines_of(data.decode())[int(row)]}: "
+    else:
+        wanted = f"opcmds: {called}: {reason_of_header(data)}"
     is_start = row != "0" or wanted.endswith('"')
     if not (line.startswith(wanted) if is_start else line == wanted):
         raise Wrong("not the reason of a bad row", f"{line!r} and not {wanted!r}")

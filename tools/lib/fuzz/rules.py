@@ -7,7 +7,11 @@ from typing import NamedTuple
 from lib.answers import PHRASES
 from lib.places import TOP
 
-ROW = re.compile(r"^\| (E\d\d) \| `(\w+)`((?: \w+)*) \| .* \| ?(\d*) \| ?(\d*) \| [^|]* \|$", re.M)
+ROW = re.compile(r"^- (E\d\d) `(\w+)`((?: \w+)*): ", re.M)
+# the lines with the statuses of responses and of runs: each status with its codes, and with spans of them
+STATUSES = re.compile(r"^- \*\*(?:Status of a response|Exit status)\b.*", re.M)
+STATUS = re.compile(r"(\d+) for (E[^;.]*)")
+SPAN = re.compile(r"(E\d\d)(?: to (E\d\d))?")
 NUMBER, NAME = r"(?:0|[1-9]\d*)", r"[A-Z0-9#$@.%*]{1,39}"
 REASONS = "Header Columns Many Kind Class Name Id Value Owner Flags Digest When Restricted".split()
 DETAILS = {
@@ -23,10 +27,13 @@ REASONS_OF_DATABASE = (
     "not a database|tables of another program|tables of version [1-9][0-9]*|in use by another program|"
     "it has a rollback journal; open it with sqlite3 first|not a plain file of one name|not the path of a file|"
     "a database with auto_vacuum, which is not supported|a database in UTF-16, which is not supported|"
-    "damaged, or its disk is full or fails|the disk is full"
+    "corrupt, or the disk is full or failing|the disk is full|"
+    r"missing, but its log \(-wal\) is there; move the log along, or remove it"
 )
 # what an export says that made the tables; a path may have line ends
-MADE = re.compile(r"(?s)opcmds: database .*: made now, without a policy\n")
+MADE = re.compile(r"(?s)opcmds: database .*: newly created; it has no policy\n")
+# what a run says that refuses something, in memory without a policy
+EMPTY_ROOM = "opcmds: without a policy there is no console; use --policy or --db"
 DONE = re.compile(rf"\d{{1,13}} DONE {RULE}")
 REFUSED = re.compile(rf"\d{{1,13}} REFUSED (E\d\d) (.*?) ({RULE})")
 # what C0, DEL and C1 have, which a terminal would obey
@@ -36,23 +43,29 @@ FIELD = re.compile(rf'"((?:[^"\\]|{ESCAPED.pattern})*)"(\.\.)?$')
 MOST_SHOWN = 39  # characters of a field
 # why a line of a script is bad; what follows a fault that some rows have, and the faults of which a line may follow
 BAD_LINE = re.compile(
-    rf'opcmds: script(?:: (?:more than 1,048,576 bytes|not UTF-8)|, line {NUMBER}: (no moment|no console|no command|'
-    r"the moment has more than 13 digits|the (?:console's name|event) does not read): (\".*\"(?:\.\.)?) "
-    r"\(a line (?:is MOMENT CONSOLE COMMAND|of an event is MOMENT \* EVENT)\))\n"
+    rf'opcmds: script(?:: (?:more than 1,048,576 bytes|not UTF-8)|, line {NUMBER}: (no time|no console|no command|'
+    r"the time has more than 13 digits|the (?:console's name|event) is invalid): (\".*\"(?:\.\.)?) "
+    r"\(a line (?:is TIME CONSOLE COMMAND(?:; TIME is in seconds since 1970)?|of an event is TIME \* EVENT; "
+    r"events: JOBIN, JOBEND, ATTACH, ALLOCATE, FREE, ASK, RESUME)\))\n"
 )
 # how many words of it are shown at most, since a password may follow; of any other fault two
-WORDS = {"no moment": 1, "the moment has more than 13 digits": 1, "the event does not read": 3}
+WORDS = {"no time": 1, "the time has more than 13 digits": 1, "the event is invalid": 3}
 REFUSED_ROW = (
-    rf"opcmds: (?s:.*), row {NUMBER}: (?:no (?:user|group|user or group|profile (?:CONSOLE|OPERCMDS))|"
-    rf"a (?:user|group) has the name) {NAME}"
+    rf"opcmds: (?s:.*), row {NUMBER}, line {NUMBER}: (?:no (?:user|group|user or group|profile (?:CONSOLE|OPERCMDS))|"
+    rf"a (?:user|group) has the name) {NAME}(?:; {NAME}\?)?"
 )
 NOTES = {
-    "E50": r"opcmds: console \S+: (?:nobody is on|\S+ is not SPECIAL)", "E52": REFUSED_ROW, "E53": REFUSED_ROW,
+    "E04": r'opcmds: "[A-Za-z0-9#$@*]*": (?:no such verb(?:; [A-Z]+\?)?|no space follows the verb)',
+    "E05": r'opcmds: "[^ ,]+(?: [^ ,]+)?"(?:\.\.)?: [A-Z]+ takes .+',
+    "E10": rf"opcmds: (?:console \S+: there is no such console|no such console(?:; {NAME}\?)?)",
+    "E12": r"opcmds: console \S+: nobody is logged on",
+    "E50": r"opcmds: console \S+: (?:nobody is logged on|\S+ is not SPECIAL)", "E52": REFUSED_ROW,
+    "E53": rf"(?:{REFUSED_ROW}|opcmds: no such user(?:; {NAME}\?)?)",
     "E57": r"(?s:opcmds: database .*): users are stored; (?:use --console|leave out --policy)",
 }
 HEADER = re.compile(
     r': (the first row is not the header: (".*"(?:\.\.)?)'
-    r"(?:; fields are separated by '(?:;|\\t|\|)', expected ',')?|"
+    r"; (?:fields are separated by '(?:;|\\t|\|)', expected ','|expected kind,class,name,id,value,owner,flags,digest)|"
     r'no rows; the first has to be the header|more than 16,777,216 bytes|(?:UTF-16 and )?not UTF-8(?:; save it as "CSV '
     r'UTF-8")?)$'
 )
@@ -62,25 +75,36 @@ RESPONSE = re.compile(
 )
 
 
-# how what is said of arguments that do not read begins; without any it is the first screen
+# how what is said of invalid arguments begins; without any it is the first screen
 MISTAKES = ("error: ", "Decides from a written policy ")
 
 
 class Form(NamedTuple):
-    """What the table says of a fault: the form of its text, the status of a response with it, and that of a run."""
+    """What the index says of a fault: the form of its text, the status of a response with it, and that of a run."""
     text: re.Pattern[str]
     response: int | None
     run: int | None
 
 
+def statuses(said: str, codes: list[str]) -> dict[str, int]:
+    """The status of each code that a line of the index names."""
+    found = {}
+    for status, spans in STATUS.findall(said):
+        for first, last in SPAN.findall(spans):
+            found |= {code: int(status) for code in codes if first <= code <= (last or first)}
+    return found
+
+
 @functools.cache
 def forms() -> dict[str, Form]:
     with open(f"{TOP}/docs/RULES.md", encoding="utf-8") as file:
-        rows = ROW.findall(file.read())
+        index = file.read()
+    rows = ROW.findall(index)
+    response, run = (statuses(said, [code for code, _, _ in rows]) for said in STATUSES.findall(index))
     found = {}
-    for code, name, details, response, run in rows:
+    for code, name, details in rows:
         text = " ".join([name, *(DETAILS[detail] for detail in details.split())])
-        found[code] = Form(re.compile(text), int(response) if response else None, int(run) if run else None)
+        found[code] = Form(re.compile(text), response.get(code), run.get(code))
     return found
 
 
@@ -119,7 +143,7 @@ def wrong_said(status: int, said: bytes) -> str | None:
         return None
     if status == 0:
         return None if MADE.fullmatch(text) else f"it is done, and says {text[:200]!r}"
-    if status == 2 and text.startswith(MISTAKES):
+    if status == 2 and text.startswith(MISTAKES) or (status, text) == (1, f"{EMPTY_ROOM}\n"):
         return None
     if status == 2 and text.startswith("opcmds: script"):
         return wrong_note(text)
@@ -147,8 +171,8 @@ def wrong_reason(first: str, line: str) -> str | None:
         is_good = good and (good[2] is None or is_clean(good[2]))
         return None if is_good else f"not a reason for {first}: {line!r}"
     if number:
-        reason = line.partition(f", row {number[1]}: ")[2]
-        return None if reason and is_clean(reason) else f"not a reason for {first}: {line!r}"
+        reason = re.search(rf"(?s), row {number[1]}, line {NUMBER}: (.+)", line)
+        return None if reason and is_clean(reason[1]) else f"not a reason for {first}: {line!r}"
     if first.startswith("E92") and not line.endswith(": " + reason_of_version(first)):
         return f"not the reason for {first}: {line!r}"
     return None

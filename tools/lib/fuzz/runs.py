@@ -95,7 +95,7 @@ def wants_answer(ran: Ran, wanted: tuple[int, str, str | None]) -> None:
     first = ran.said.decode(errors="backslashreplace").partition("\n")[0]
     found = ran.status, ran.printed.decode(errors="backslashreplace"), None if said is None else first
     if said is None and not first.startswith(rules.MISTAKES):
-        raise Wrong("not what is said of bad words", first)
+        raise Wrong("not what is said of invalid arguments", first)
     if found != wanted:
         raise Wrong("not the model's answer", f"program {cut(found, wanted)!r}, model {cut(wanted, found)!r}")
 

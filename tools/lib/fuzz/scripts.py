@@ -56,7 +56,7 @@ def make(chance: Random) -> Script:
     lines = [line.encode() for line in any_lines(chance, cases.state_of(policy))]
     for _ in range(chance.choice((0, 1, 2, 4, 8))):
         at = chance.randrange(len(lines))
-        # (an event that does not read would end it all)
+        # (an invalid event would end it all)
         if b" * " not in lines[at] or one_in(chance, 12):
             lines[at] = turned_text(chance, lines[at])
     if one_in(chance, 6):

@@ -9,7 +9,7 @@ from lib.model import names, random_lines, world
 from lib.model.machine import State
 from lib.model.steps import Explain, Run
 from lib.model.world import one_in
-from . import scripts, turning
+from . import rules, scripts, turning
 from .inputs import Input, shown, written
 from .runs import Word, Wrong, run, wants_answer, wants_end
 
@@ -64,13 +64,15 @@ class Words(Input):
         data = scripts.base_policy() if self.pieces[:1] in (["explain"], ["import"]) else b"1 C1 D U\n"
         ran = run(self.pieces, data, room)
         wants_end(ran)
-        if ran.status == 2 and ran.printed:
-            raise Wrong("bad words, and something is printed", ran.printed[:300])
+        # (the arguments may name the policy file as a script, which it is not)
+        is_no_script = ran.printed.startswith(b"BAD LINE ")
+        if ran.status == 2 and ran.printed and not is_no_script:
+            raise Wrong("invalid arguments, and something is printed", ran.printed[:300])
         wanted = comes_to(self.pieces)
         if wanted is not None:
             wants_answer(ran, wanted)
-        if ran.status == 2 and os.listdir(room) != [FILE]:
-            raise Wrong("bad words, and a file is made", os.listdir(room))
+        if ran.status == 2 and not is_no_script and os.listdir(room) != [FILE]:
+            raise Wrong("invalid arguments, and a file is made", os.listdir(room))
 
     def kept(self) -> dict[str, bytes]:
         return {"words": shown(self.pieces), FILE: scripts.base_policy()}
@@ -149,9 +151,11 @@ def is_address(values: dict[str, str]) -> bool:
 
 
 def answer_of_run(policy: str | None) -> tuple[int, str, str] | None:
-    if policy in (None, FILE):
-        data = scripts.base_policy() if policy else None
-        return Run(data, ["1 C1 D U\n"]).model(State())[0][1]
+    if policy is None:
+        status, printed, _ = Run(None, ["1 C1 D U\n"]).model(State())[0][1]
+        return status, printed, rules.EMPTY_ROOM
+    if policy == FILE:
+        return Run(scripts.base_policy(), ["1 C1 D U\n"]).model(State())[0][1]
     return answer_without(policy)
 
 

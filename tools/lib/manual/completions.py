@@ -28,7 +28,7 @@ _opcmds() {{
     case "${{COMP_WORDS[1]}} $before" in
 {values}
     esac
-    # an option that was given is not given again
+{files}    # an option that was given is not given again
     for given in "${{COMP_WORDS[@]:2:COMP_CWORD - 2}}"; do
         options=" $options " options=${{options/ "$given" / }}
     done
@@ -80,6 +80,14 @@ def bash_values(command: Command) -> list[str]:
     return [f"        {pattern}) {action} ;;" for pattern, action in found]
 
 
+def bash_files(commands: list[str]) -> str:
+    """What stands in the place of an option of these commands, which take a file alone."""
+    if not commands:
+        return ""
+    line = f"{' | '.join(commands)}) [[ $word == -* ]] || {{ {FILES}; }} ;;"
+    return f"    case ${{COMP_WORDS[1]}} in\n        {line}\n    esac\n"
+
+
 def bash(table: list[Command]) -> str:
     options = [
         f"        {command.name}) options={named([option.name for option in command.options])} ;;"
@@ -88,7 +96,13 @@ def bash(table: list[Command]) -> str:
     ]
     values = [line for command in table for line in bash_values(command)]
     names = named([command.name for command in table])
-    return BASH.format(own=named(list(OWN)), names=names, options="\n".join(options), values="\n".join(values))
+    return BASH.format(
+        own=named(list(OWN)),
+        names=names,
+        options="\n".join(options),
+        values="\n".join(values),
+        files=bash_files([command.name for command in table if command.file]),
+    )
 
 
 def escaped(text: str, marks: str = "[]:\\") -> str:
@@ -118,7 +132,9 @@ def zsh(table: list[Command]) -> str:
     options = ["    help) _describe command commands ;;"]
     for command in table:
         if command.options:
-            lines = " \\\n".join(f"        {zsh_option(option)}" for option in command.options)
+            words = [zsh_option(option) for option in command.options]
+            words += [quoted(f"::{command.file.value}:_files")] if command.file else []
+            lines = " \\\n".join(f"        {word}" for word in words)
             options.append(f"    {command.name}) _arguments \\\n{lines} ;;")
     own = " ".join(zsh_option(Option(name, "", text)) for name, text in OWN.items())
     return ZSH.format(own=own, commands="\n".join(commands), options="\n".join(options))

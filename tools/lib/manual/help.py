@@ -1,26 +1,31 @@
-"""The commands and options of the program, by its own help: the table from which the completions are made, and by
-which the manual is checked."""
+"""The commands and options of the program, by its own help: the table from which the manual and the completions are
+made."""
 import re
 import subprocess
 from typing import NamedTuple
 
-from lib.files import bytes_of
-from lib.places import TOP
+from .rules import codes_in, page_of
 
 # a line of the first screen: a group or nothing, a command, and what it is for
 COMMAND = re.compile(r"(?:[A-Z][a-z ]*| ) {2,}([a-z]+) {2,}(\S.*)")
 # the commands that are not about a policy or a room, and so stand in no group
-OTHERS = {"help": "print the help of a command"}
+OTHERS = {
+    "commands": "list what an operator may type, and what each command needs",
+    "help": "print the help of a command",
+}
+# the pages with the codes that a value may be
+CODES = {"CODE": "RULES.md", "CODES": "rules/notes.md"}
 WIDEST = 78  # columns
 OPTION = re.compile(r"  (?:-\w, |    )--([\w-]+)(?: <(\S+)>)?(?: +(\S.*))?")
+ARGUMENT = re.compile(r"  \[(FILE)\] +(\S.*)")
 MORE = re.compile(r" {10,}(\S.*)")
+LISTED = re.compile(r"(?:Usage|Arguments|Options|Examples?|Status):")
 
 
 class Option(NamedTuple):
-    name: str  # with its hyphens
+    name: str  # with its hyphens, or nothing if its value stands alone
     value: str  # what the help calls its value, or nothing
     text: str
-    is_needed: bool = False
     codes: tuple[str, ...] = ()  # that its value may be
 
     def is_path(self) -> bool:
@@ -42,9 +47,18 @@ class Command(NamedTuple):
     name: str
     text: str
     options: list[Option]
+    file: Option | None = None  # that stands alone
+    shown: str = ""  # its help
 
-    def option(self, name: str) -> Option | None:
-        return next((option for option in self.options if option.name == name), None)
+    def all_options(self) -> list[Option]:
+        return [self.file, *self.options] if self.file else self.options
+
+    def said(self) -> list[str]:
+        """The paragraphs of its help, but for the usage, the options, the examples and the statuses."""
+        return [it for it in self.shown.strip().split("\n\n") if not LISTED.match(it)]
+
+    def statuses(self) -> str:
+        return " ".join(self.shown.partition("\nStatus: ")[2].split())
 
 
 def part_of(text: str, heading: str) -> list[str]:
@@ -70,14 +84,20 @@ def too_wide(text: str) -> list[str]:
 
 
 def options_in(text: str) -> list[Option]:
-    """The options that the help of a command names. Those are needed that its usage has outside brackets."""
-    needed, options = re.findall(r"--([\w-]+)", re.sub(r"\[[^]]*\]|\([^)]*\)", "", usage_of(text))), []
+    """The options that the help of a command names."""
+    options = []
     for line in part_of(text, "Options"):
         if found := OPTION.fullmatch(line):
-            options.append(Option(f"--{found[1]}", found[2] or "", found[3] or "", found[1] in needed))
+            options.append(Option(f"--{found[1]}", found[2] or "", found[3] or ""))
         elif options and (found := MORE.fullmatch(line)):
             options[-1] = options[-1]._replace(text=f"{options[-1].text} {found[1]}".strip())
     return options
+
+
+def file_in(text: str) -> Option | None:
+    """The file that the help of a command names without an option."""
+    found = ARGUMENT.fullmatch(part_of(text, "Arguments")[0])
+    return Option("", found[1], found[2]) if found else None
 
 
 def help_of(program: str, *words: str) -> str:
@@ -86,20 +106,15 @@ def help_of(program: str, *words: str) -> str:
 
 def codes_of(value: str) -> tuple[str, ...]:
     """The codes of the rules that the value of an option may be: of refusals, or of notes."""
-    if value == "CODE":
-        return (*codes_in("docs/RULES.md", "E"), "WARN")
-    return codes_in("docs/rules/notes.md", "N") if value == "CODES" else ()
-
-
-def codes_in(page: str, letter: str) -> tuple[str, ...]:
-    """The codes that begin rows of the tables of a page, each once."""
-    return tuple(dict.fromkeys(re.findall(rf"(?m)^\| ({letter}\d\d) \|", bytes_of(f"{TOP}/{page}").decode())))
+    codes = codes_in(page_of(CODES[value])) if value in CODES else []
+    return (*codes, "WARN") if value == "CODE" else tuple(codes)
 
 
 def table_of(program: str) -> list[Command]:
     """The commands of the program with their options; `help` has none."""
     table = []
     for name, text in {**commands_in(help_of(program)), **OTHERS}.items():
-        options = options_in(help_of(program, name)) if name != "help" else []
-        table.append(Command(name, text, [option._replace(codes=codes_of(option.value)) for option in options]))
+        shown = help_of(program, name) if name != "help" else ""
+        options = [option._replace(codes=codes_of(option.value)) for option in options_in(shown)]
+        table.append(Command(name, text, options, file_in(shown), shown))
     return table

@@ -1,107 +1,121 @@
-"""The manual page: which commands and options it has, in its synopsis and where it explains them."""
+"""The manual page, made from its template, the help of the program, and the pages of docs/."""
 import re
-from typing import NamedTuple
+import textwrap
 
-from .help import Command
+from lib.places import TOP
+from lib.version import version
+from .help import Command, Option, usage_of
+from .rules import page_of
 
-OPTION = re.compile(r"Fl -([\w-]+)(?: Ar (\S+))?")
-EXPLAINED = re.compile(r"\.It Fl -([\w-]+)(?: Ar (\S+))?")
-MISPLACED = re.compile(r"\S*(?:\|[\]}]|[\[{]\|)\S*|‘[^’]*‘[^’]*’+")
-CODE = re.compile(r"(?m)^\.It Sy (E\d\d \w+)(?: Ar (.*))?\n((?:[^.\n].*\n)+)")
-NOTE = re.compile(r"\.It Sy (N\d\d)")
-OPERATION = re.compile(r"(?m)^\.It Li ([A-Z]\w+(?: , \w+)*)\n\.Li (.*)$")
-
-
-class Named(NamedTuple):
-    """What the page says of an option."""
-    value: str  # in capitals, as the help has it
-    is_needed: bool
+PAGE, TEMPLATE = f"{TOP}/packaging/opcmds.1", f"{TOP}/packaging/opcmds.1.in"
+MARK = re.compile(r"@(\w[^@\n]*)@")  # where the template has a part that is made, as `@rules/run.md#Scripts@`
+# in a paragraph: a hyphen that begins a word, quotes, what is bold, and a word that is not hyphenated
+ESCAPES = {r"(?<!\w)-": r"\\-", "‘": r"\\(oq", "’": r"\\(cq", "‹": r"\\fB", "›": r"\\fR", "¤": r"\\%"}
+SIGNS = {"(": ".Bro", ")": ".Brc", "[": ".Oo", "]": ".Oc"}
+BLOCK = re.compile(r"(?ms)^```.*?^```$|^[^\n]+(?:\n[^\n]+)*")  # of a page: code, a list, a table or a paragraph
 
 
-def section(page: str, name: str) -> list[str]:
-    _, _, rest = page.partition(f"\n.Sh {name}\n")
-    return rest.partition("\n.Sh ")[0].split("\n")
+def literal(text: str) -> str:
+    """Text as it stands, also where mdoc would read a macro or an escape."""
+    return re.sub(r"(?m)^(?=[.'])", r"\\&", text.replace("\\", "\\e"))
 
 
-def synopsis_of(page: str) -> dict[str, dict[str, Named]]:
-    """The options of each command in the synopsis; what stands in brackets or braces may be left out."""
-    found, command, depth = {}, "", 0
-    for line in section(page, "SYNOPSIS"):
-        depth += (line in (".Bro", ".Oo")) - (line in (".Brc", ".Oc"))
-        if line == ".Nm":
-            command = ""
-        elif line.startswith(".Cm "):
-            command = line.split()[1]
-            found[command] = {}
-        for name, value in OPTION.findall(line) if command else ():
-            found[command][f"--{name}"] = Named(value.upper(), depth == 0 and not line.startswith(".Op "))
-    return found
+def prose(text: str) -> str:
+    """A paragraph, of which each sentence begins a line."""
+    text = " ".join(text.split()).replace("\\", "\\e")
+    for mark, escape in ESCAPES.items():
+        text = re.sub(mark, escape, text)
+    sentences = re.split(r"(?<=[^.]\.) (?=[A-Z\\(])", text if text.endswith((".", ".)", ":", ";")) else f"{text}.")
+    lines = "\n".join(textwrap.fill(it, 78, break_on_hyphens=False) for it in sentences)
+    return re.sub(r"(?m)^(?=[.'])", r"\\&", lines)
 
 
-def explained_in(page: str) -> dict[str, dict[str, str]]:
-    """The options that the page explains, by command, with their values."""
-    found, command = {}, ""
-    for line in section(page, "COMMANDS"):
-        if line.startswith(".It Cm "):
-            command = line.split()[2]
-            found[command] = {}
-        elif match := EXPLAINED.fullmatch(line):
-            found[command][f"--{match[1]}"] = (match[2] or "").upper()
-    return found
+def unmarked(text: str) -> str:
+    """A paragraph of a page of docs/ without its marks: links are their words, and code is bold or quoted."""
+    pieces = re.sub(r"\[([^]]+)\]\([^)]*\)", r"\1", text).split("`")
+    codes = [f"¤‹{it}›" if re.fullmatch(r"[\w-]+", it) else f"¤‘{it.replace(' ', ' ¤')}’" for it in pieces[1::2]]
+    return "".join(f"{text}{code}" for text, code in zip((it.replace("*", "") for it in pieces[::2]), [*codes, ""]))
 
 
-def codes_in(page: str) -> list[tuple[str, str]]:
-    """The codes with their texts and meanings, as the index of the rules writes them."""
-    found = []
-    for text, details, meaning in CODE.findall(page):
-        code, name = text.split()
-        line = " ".join(meaning.split()).removesuffix(".")
-        found.append((code, f"`{name}`{' ' + details if details else ''}", line[0].lower() + line[1:]))
-    return found
+def items(found: list[tuple[str, str]], how: str) -> str:
+    """A list of what is named, and of what is said of it."""
+    return "\n".join([f".Bl {how}", *(f".It {name}\n{text}".replace(".It \n", ".It\n") for name, text in found), ".El"])
 
 
-def notes_in(page: str) -> list[str]:
-    """The codes of notes, in their order."""
-    return NOTE.findall("\n".join(section(page, "NOTES ON A POLICY")))
+def table(text: str) -> str:
+    """A table as a list of its first column, with what the others say of it, by their heads if they are several."""
+    head, _, *rows = [[unmarked(it).strip() for it in line.split("|")[1:-1]] for line in text.split("\n")]
+    names = [f"{it}: " for it in head[1:]] if len(head) > 2 else [""]
+    found = [(name, [f"{it}{cell}" for it, cell in zip(names, cells) if cell]) for name, *cells in rows]
+    listed = [(prose(name)[:-1].replace("\n", " "), "\n".join(map(prose, cells))) for name, cells in found]
+    return items(listed, "-tag -width 13n -compact")
 
 
-def operations_in(page: str) -> dict[str, list[str]]:
-    """The operations over HTTP, each with its keys."""
-    text = "\n".join(section(page, "HTTP"))
-    return {name: keys.split(" , ") for names, keys in OPERATION.findall(text) for name in names.split(" , ")}
+def point(text: str) -> str:
+    """A point of a list, which may have a list of its own."""
+    first, *inner = re.split(r"\n +(?=- )", text, maxsplit=1)
+    return "\n".join([prose(unmarked(first)), *(block(re.sub(r"(?m)^ +", "", it)) for it in inner)])
 
 
-def display_in(page: str, name: str) -> str:
-    """The text that a section displays as it stands."""
-    _, _, rest = "\n".join(section(page, name)).partition("\n.Bd -literal -offset indent\n")
-    return rest.partition(".Ed")[0]
+def block(text: str) -> str:
+    if text[:3] == "```":
+        return f".Bd -literal -offset indent\n{literal(text.partition(chr(10))[2][:-4])}\n.Ed"
+    if text[0] == "|":
+        return table(text)
+    _, *listed = re.split(r"(?m)^(?:- |\d+\. )", f"\n{text}")
+    if not listed:
+        return f".Pp\n{prose(unmarked(text))}"
+    return items([("", point(it)) for it in listed], f"{'-bullet' if text[0] == '-' else '-enum'} -compact")
 
 
-def misplaced_in(printed: str) -> list[str]:
-    """What stands in brackets with a bar that belongs outside, and what is quoted twice."""
-    return MISPLACED.findall(" ".join(printed.split()))
+def section(name: str) -> str:
+    """A section of a page of docs/, by the page and its heading."""
+    page, _, heading = name.partition("#")
+    found = re.search(rf"(?ms)^##+ {re.escape(heading)}\n(.*?)(?=^#|\Z)", page_of(page))
+    if not found:
+        raise ValueError(f"docs/{page} has no section {heading}")
+    return "\n".join(map(block, BLOCK.findall(found[1]))).removeprefix(".Pp\n")
+
+
+def usage(command: Command) -> str:
+    """A command in the synopsis."""
+    _, name, *words = re.findall(r"--[\w-]+|\w+|\S", usage_of(command.shown))
+    lines = [SIGNS.get(it) or re.sub(r"^-", ".Fl ", it) for it in words]
+    return "\n".join([".Nm", f".Cm {name}", *(re.sub(r"^(?=\w)", ".Ar ", line) for line in lines)])
+
+
+def named(option: Option) -> str:
+    return " ".join([f"Fl {option.name[1:]}"] * bool(option.name) + [f"Ar {option.value}"] * bool(option.value))
+
+
+def described(command: Command) -> str:
+    """What the help says of a command, but for its examples and statuses."""
+    options = [(named(it), prose(it.text)) for it in command.all_options() if it.name != "--help"]
+    said = "\n.Pp\n".join(map(prose, command.said()))
+    return "\n".join([f".It Cm {command.name}", said, *([items(options, "-tag -width Ds")] if options else [])])
+
+
+def of_program(commands: list[Command], listed: str) -> dict[str, str]:
+    """The parts that the program prints: its help, and its table of the operator's commands."""
+    commands = [command for command in commands if command.shown]
+    statuses = [(f"Cm {it.name}", prose(it.statuses())) for it in commands]
+    return {
+        "VERSION": version(),
+        "SYNOPSIS": "\n".join(map(usage, commands)),
+        "OPERATOR COMMANDS": listed.rstrip("\n"),
+        "STATUSES": items(statuses, '-tag -width "commands" -compact'),
+        **{command.name: described(command) for command in commands},
+    }
+
+
+def made(template: str, parts: dict[str, str]) -> str:
+    """The template with each part in its place, and each section of docs/."""
+    marks = MARK.findall(template)
+    differ = {*parts} ^ {it for it in marks if "#" not in it}
+    if differ:
+        raise ValueError(f"the template or the program lacks {', '.join(sorted(differ))}")
+    return MARK.sub(lambda mark: parts[mark[1]] if mark[1] in parts else section(mark[1]), template)
 
 
 def examples_in(page: str) -> list[str]:
-    return [line.removeprefix(".Dl ") for line in section(page, "EXAMPLES") if line.startswith(".Dl ")]
-
-
-def differences(page: str, table: list[Command]) -> list[str]:
-    """What the manual lacks of the help, and the other way round."""
-    synopsis, explained, found = synopsis_of(page), explained_in(page), []
-    for place, commands in (("the synopsis", synopsis), ("COMMANDS", explained)):
-        names = [command.name for command in table]
-        found += [f"{place} has no command {name}" for name in names if name not in commands and name != "help"]
-        found += [f"the help has no command {name}, {place} has" for name in commands if name not in names]
-    for command in table:
-        options = {option.name: option for option in command.options if option.name != "--help"}
-        shown, texts = synopsis.get(command.name, {}), explained.get(command.name, {})
-        found += [f"{command.name}: the manual has no {name}" for name in options if name not in shown]
-        found += [f"{command.name}: the manual does not explain {name}" for name in options if name not in texts]
-        found += [f"{command.name}: the help has no {name}" for name in {**shown, **texts} if name not in options]
-        for name, option in options.items():
-            if name in shown and shown[name] != Named(option.value, option.is_needed):
-                found.append(f"{command.name} {name}: the synopsis has {shown[name]}, the help has {option}")
-            if name in texts and texts[name] != option.value:
-                found.append(f"{command.name} {name}: COMMANDS calls its value {texts[name]!r}, not {option.value!r}")
-    return found
+    return re.findall(r"(?m)^\.Dl (.*)$", page)

@@ -1,10 +1,12 @@
-"""What the documents and the definitions say of what the manual repeats."""
+"""What the documents and the definitions say, of which the manual is made, and by which the program is checked."""
 import re
 
+from lib.files import bytes_of
+from lib.places import TOP
+
 COMMAND = re.compile(r'(?m)^ +(?:∷ )?command \(codes "(\w+)"\)')
-CODE = re.compile(r"(?m)^\| (E\d\d) \| (.*?) \| (.*?) \|")
-NOTE = re.compile(r"(?m)^\| (N\d\d) \|")
-OPERATION = re.compile(r"(?m)^\| (`[A-Z]\w+`(?:, `\w+`)*) \| (`[a-z]+`(?:, `\w+`)*) \|$")
+CODE = re.compile(r"(?m)^- ([EN]\d\d) ")
+KNOWN = re.compile(r'codes "(N\d\d)"')
 ROW = re.compile(r"(?m)^(\S+(?: \S+)?) +(\S+) +(\S+) +(\S+)$")
 QUOTED = re.compile(r"`([^`]*)`")
 
@@ -14,18 +16,18 @@ def commands_in(specs: str) -> list[str]:
     return COMMAND.findall(specs)
 
 
-def codes_in(index: str) -> list[tuple[str, str, str]]:
-    return CODE.findall(index)
+def page_of(name: str) -> str:
+    return bytes_of(f"{TOP}/docs/{name}").decode()
 
 
-def notes_in(page: str) -> list[str]:
-    return list(dict.fromkeys(NOTE.findall(page)))
+def codes_in(page: str) -> list[str]:
+    """The codes that begin items of a page, of refusals or of notes."""
+    return CODE.findall(page)
 
 
-def operations_in(page: str) -> dict[str, list[str]]:
-    """The operations of administration, each with its keys."""
-    found = OPERATION.findall(page)
-    return {name: QUOTED.findall(keys) for names, keys in found for name in QUOTED.findall(names)}
+def known_notes_in(specs: str) -> list[str]:
+    """The codes of notes that `check` takes, by their definition."""
+    return KNOWN.findall(specs)
 
 
 Need = tuple[str, str, str, str]  # the form of a command, its group, the level, and a resource in capitals
@@ -44,5 +46,5 @@ def needs_in(page: str) -> list[Need]:
 
 
 def needs_listed(table: str) -> list[Need]:
-    """The same of the table that the manual has."""
+    """The same of the table that the program prints."""
     return sorted(ROW.findall(table.partition("\n")[2]))

@@ -25,6 +25,8 @@ def cases_of(table: list[Command]) -> Iterator[tuple[list[str], list[str]]]:
         options = [option.name for option in command.options]
         if options:
             yield ["opcmds", command.name, "--"], options
+        if command.file:
+            yield ["opcmds", command.name, ""], list(FILES)
         for option in command.options:
             before = ["opcmds", command.name, option.name]
             others = [name for name in options if name != option.name]

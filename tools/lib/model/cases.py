@@ -4,7 +4,7 @@ from collections import Counter
 from random import Random
 from typing import Any, Callable, Iterable
 
-from . import account, counting, entering, exchange, files, machine, names, random_lines, random_policies
+from . import account, counting, entering, exchange, files, machine, names, questions, random_lines, random_policies
 from . import random_requests, random_unread, scripts, world
 from .files import Row
 from .machine import State
@@ -84,7 +84,7 @@ def explain(chance: Random) -> list[Step]:
 
 
 def with_consoles(chance: Random) -> bytes:
-    """A policy file with consoles of all modes; now and then one of its rows is refused."""
+    """A policy file with consoles of all modes; now and then one of its rows is refused, or it has no consoles."""
     rows = random_policies.with_doors(chance) if one_in(chance, 2) else overlapping(chance)[0]
     rows += [random_policies.row("connect", name="ANNA", id="OTHERS")] * one_in(chance, 12)
     rows += [
@@ -93,6 +93,8 @@ def with_consoles(chance: Random) -> bytes:
         )
         for name in (*world.CONSOLES, *world.USERS) if names.is_console(name) and one_in(chance, 2)
     ]
+    if one_in(chance, 12):
+        rows = [row for row in rows if row[0] != "console"]
     return random_policies.joined(chance, random_policies.written(chance, rows))
 
 
@@ -101,6 +103,8 @@ def command_asked(chance: Random, first: bytes) -> dict[str, str]:
     words = {"command": random_lines.any_line(chance, state_of(first)).replace("\0", "\1").lstrip("-")}
     if one_in(chance, 6):
         words["command"] = random_lines.typed(chance, chance.choice(("LOGON", "LOGON ANNA", "LOGON X,Y,Z", "LOGOFF")))
+    elif one_in(chance, 4):
+        words["command"] = random_lines.typed(chance, f"D A,{chance.choice(world.UNITS)}")
     if one_in(chance, 3):
         words["as"] = chance.choice(("TSU", "STC:PAY", "JOB", "STC:", "STC:A.B", "JOB:PAY"))
     return words
@@ -142,7 +146,7 @@ def who_asked(chance: Random, first: bytes) -> dict[str, str]:
             words["class"] = chance.choice(names.CLASSES)
     else:
         words |= command_asked(chance, first)
-    if one_in(chance, 3):
+    if one_in(chance, 3) or (questions.asks_to_log_on(words) and not one_in(chance, 4)):
         words["console"] = chance.choice((*world.CONSOLES, *filter(names.is_console, world.USERS)))
     if one_in(chance, 4):
         words["allowed"] = ""
@@ -160,7 +164,9 @@ def check(chance: Random) -> list[Step]:
         lines = random_policies.spoiled(chance, lines)
     while one_in(chance, 2) and len(lines) > 2:
         del lines[chance.randrange(1, len(lines))]
-    allowed = [f"N{number:02}" for number in range(1, 20) if one_in(chance, 3)] if one_in(chance, 4) else []
+    # (there is no note N07)
+    noted = [number for number in range(1, 20) if number != 7]
+    allowed = [f"N{number:02}" for number in noted if one_in(chance, 3)] if one_in(chance, 4) else []
     return [Check(one_in(chance, 3), allowed, random_policies.joined(chance, lines), any_source(chance))]
 
 

@@ -41,7 +41,7 @@ WHYS = [
 OTHERS = {
     "command": "E01 E02 E03 E04 E05 E06 E10 E11", "LOGON": "E13 E14 E15 E17 WARN done", "LOGOFF": "E16 done",
     "first policy": "E41 E52 E53 E57 done", "script": "bad",
-    "explain": "ALLOWED DENIED NOLOGON UNDECIDED E01 E02 E03 E04 E05 E06 E10 E53 words",
+    "explain": "ALLOWED DENIED HIDDEN NOLOGON UNDECIDED E01 E02 E03 E04 E05 E06 E10 E53 words",
     "who": "E01 E02 E03 E04 E05 E06 E10 answered words", "account": "rows words", "digest": "done",
     "check": "good Header Columns Kind Class Name Id Value Owner Flags Digest When Restricted E52 E53 N01 N02 N03 N04"
     " N05 N06 N08 N09 N10 N11 N12 N13 N14 N15 N16 N17 N18 N19",
@@ -57,13 +57,13 @@ BRANCHES = {
     "who": (
         "a user, OWN", "a user, GROUP", "a user, EVERYONE", "a user, UACC", "a user, RESTRICTED", "a user, OWN AT",
         "a user, GROUP AT", "a user, EVERYONE AT", "a console, AUTO", "a console, NOBODY", "as JSON",
-        "NOLOGON NODIGEST", "NOLOGON NOCONSOLE", "NOLOGON PROFILE",
+        "NOLOGON NODIGEST", "NOLOGON NOCONSOLE", "NOLOGON PROFILE", "HIDDEN",
     ),
     "why": (
         "OWN", "GROUP", "EVERYONE", "UACC", "RESTRICTED", "OWN AT", "GROUP AT", "EVERYONE AT", "NOLOGON NODIGEST",
         "NOLOGON NOCONSOLE", "NOLOGON PROFILE",
     ),
-    "entering": ("may", "may not", "no logon"), "taken for": ("JOB", "STC", "TSU", "nothing"),
+    "entering": ("may", "may not", "no logon", "shown", "hidden"), "taken for": ("JOB", "STC", "TSU", "nothing"),
     "over a file": ("a STC on the board", "a TSU on the board"), "account": ("no row",),
     "digest": ("no password",),
     "acting": ("the user who is on", "the console's own user", "nobody at AUTO"),

@@ -14,13 +14,15 @@ PASSWORDS = {digest: word for word, digest in world.DIGESTS.items()}
 NOT_ALLOWED = ("E12", "E13", "E20", "E21")
 # what `who` says of a user, by what comes of it
 SAID = {
-    "may": ("ALLOWED", "WARNED"), "may not": ("DENIED",), "no logon": ("DENIED", "NOLOGON"),
+    "may": ("ALLOWED", "WARNED"), "shown": ("ALLOWED", "WARNED"), "hidden": ("HIDDEN",), "may not": ("DENIED",),
+    "no logon": ("DENIED", "NOLOGON"),
 }
 
 
 def unit_event(words: dict[str, str]) -> list[str]:
-    """The event that makes the unit what the command takes it for."""
-    kind, operands = words.get("as"), reading.read(words["command"]).operands
+    """The event that makes the unit what the command takes it for, or that there is one to be shown."""
+    form, operands = reading.read(words["command"])
+    kind = words.get("as", "JOB" if form == "D A,name" else "")
     return [f"* JOBIN {operands[0]} {kind.replace(':', ' ')}"] if kind and operands else []
 
 
@@ -28,16 +30,29 @@ def script_of(state: State, user: str, words: dict[str, str]) -> list[str]:
     """The lines of this user, who needs no LOGON where the console acts for the user."""
     console, stored = words["console"], state.policy.users[user]
     log_on = f"{console} LOGON {user},{PASSWORDS.get(stored.digest, world.PASSWORD)}"
-    lines = [*unit_event(words), *[log_on] * (state.acting(console) != user), f"{console} {words['command']}"]
+    if is_logon(words):
+        lines = [log_on]
+    else:
+        lines = [*unit_event(words), *[log_on] * (state.acting(console) != user), f"{console} {words['command']}"]
     return [f"{at} {line}\n" for at, line in enumerate(lines)]
 
 
-def came_of(script: list[str], printed: str) -> str:
-    """Whether the command may be entered: the LOGON before it has to be done, if there is one."""
-    answers = [line.split(" ") for line in printed.splitlines() if not line.startswith(" ")]
+def is_logon(words: dict[str, str]) -> bool:
+    return reading.read(words["command"]).form == "LOGON"
+
+
+def came_of(script: list[str], printed: str, words: dict[str, str]) -> str:
+    """Whether the command may be entered: the LOGON before it has to be done, if there is one. Of a unit that is asked
+    for, whether it is shown."""
+    lines = printed.splitlines()
+    answers = [line.split(" ") for line in lines if not line.startswith(" ")]
     if any(" LOGON " in line and answer[1] != "DONE" for line, answer in zip(script, answers)):
         return "no logon"
-    return "may not" if answers[-1][2] in NOT_ALLOWED else "may"
+    if answers[-1][2] in NOT_ALLOWED:
+        return "may not"
+    if reading.read(words["command"]).form == "D A,name":
+        return "shown" if lines[-1].startswith(" ") else "hidden"
+    return "may"
 
 
 @dataclass
@@ -54,7 +69,7 @@ class Enter:
         users = state.policy.users if self.words["console"] in state.board.consoles else {}
         for user in sorted(users):
             script = script_of(state, user, self.words)
-            came = came_of(script, runs("".join(script).encode()))
+            came = came_of(script, runs("".join(script).encode()), self.words)
             found.append((script, (said(user, came), came)))
         return found
 
@@ -82,13 +97,16 @@ class Enter:
 
 def cases(chance: Random) -> list[Step]:
     """A policy file with a command at a console, which each user enters there."""
-    state, form = State(), "LOGON"
+    state, form = State(), "LOGOFF"
     while not state.board.consoles:
         rows = random_policies.with_doors(chance)
         first = random_policies.joined(chance, random_policies.written(chance, rows), plain=True)
         state = random_policies.state_of(first)
-    while form in ("LOGON", "LOGOFF"):
-        command = random_lines.typed(chance, random_lines.any_command(chance, state))
+    while form == "LOGOFF":
+        command = random_lines.any_command(chance, state)
+        if one_in(chance, 4):
+            command = f"D A,{chance.choice(world.UNITS)}"
+        command = random_lines.typed(chance, command)
         form = reading.read(command).form
     words = {"command": command, "console": chance.choice(sorted(state.board.consoles))}
     if form in needs.OF_UNITS and not one_in(chance, 3):

@@ -44,7 +44,7 @@ class Sent(NamedTuple):
 
 
 class Unread(Exception):
-    """What does not read as a request: its status, and the method that is allowed there."""
+    """What is no valid request: its status, and the method that is allowed there."""
 
     def __init__(self, status: int, allow: str | None = None) -> None:
         super().__init__(status, allow)
@@ -58,7 +58,7 @@ def wants_read(holds: object) -> None:
 
 def read(sent: Sent, strict: int | None = None) -> requests.Request:
     """The request that was sent; else Unread, or the fault of a policy file. A strict service is at this port."""
-    # a head that does not read is refused before all else
+    # an invalid head is refused before all else
     wants_read(
         sent.size is None and sent.version in ("1.0", "1.1") and all(
             character > " " and character != "\x7f" for character in sent.target

@@ -49,23 +49,32 @@ KINDS = {
 }
 
 
-def records(text: str) -> list[list[str]]:
-    """The records of a text, each a list of fields. A line feed, a carriage return, or both end one; blank lines are
-    none; a quote opens a quoted field only if the field begins with it, and what follows its end is taken as it is."""
-    text, at, found = text.removeprefix("\ufeff"), 0, []
+def records_on_lines(text: str) -> Iterator[tuple[int, list[str]]]:
+    """The records of a text, each a list of fields, with the line on which it begins. A line feed, a carriage return,
+    or both end one; blank lines are none; a quote opens a quoted field only if the field begins with it, and what
+    follows its end is taken as it is."""
+    text, at, line, counted = text.removeprefix("\ufeff"), 0, 1, 0
     while at < len(text):
         if text[at] in "\r\n":
             at += 1
             continue
-        fields = []
+        line, counted, fields = line + text.count("\n", counted, at), at, []
         while True:
             field, at = one_field(text, at)
             fields.append(field)
             if text[at:at + 1] != ",":
                 break
             at += 1
-        found.append(fields)
-    return found
+        yield line, fields
+
+
+def records(text: str) -> list[list[str]]:
+    return [fields for _, fields in records_on_lines(text)]
+
+
+def lines_of(text: str) -> list[int]:
+    """The lines on which the header and the rows of a text begin."""
+    return [line for line, _ in records_on_lines(text)]
 
 
 def one_field(text: str, at: int) -> tuple[str, int]:
@@ -116,9 +125,18 @@ def read_row(number: int, fields: list[str], width: int) -> Row:
     return tuple(row.values())
 
 
+def written(row: Row) -> str:
+    """A line, without its end."""
+    return ",".join(f'"{field}"' if "," in field else field for field in row)
+
+
 def write(rows: Iterable[Row]) -> str:
-    lines = [COLUMNS, *rows]
-    return "".join(",".join(f'"{field}"' if "," in field else field for field in row) + "\n" for row in lines)
+    return "".join(f"{written(row)}\n" for row in (COLUMNS, *rows))
+
+
+def shown(row: Row) -> str:
+    """A row of tables, without the digest of a password."""
+    return written(tuple("" if column == "digest" else field for column, field in zip(COLUMNS, row)))
 
 
 def exported(policy: Policy, board: Board) -> Iterator[Row]:

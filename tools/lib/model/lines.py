@@ -31,7 +31,7 @@ class UserLine:
 
 @dataclasses.dataclass(frozen=True)
 class ConsoleLine:
-    """Of a console with nobody on."""
+    """Of an unattended console."""
     verdict: str
     name: str
     rule: str
@@ -56,11 +56,22 @@ def may(line: Line) -> bool:
 
 
 def kept_off(line: UserLine, why: str | None) -> UserLine:
-    """The line of a user who does not get on for this reason, if for any."""
+    """The line of a user who cannot log on for this reason, if for any."""
     if why is None:
         return line
     counting.met["who", f"NOLOGON {why.split()[0]}"] += 1
     return dataclasses.replace(line, verdict="NOLOGON", rule=why, instead=line.instead or line.rule)
+
+
+def shown(command: Line, line: Line | None = None) -> Line:
+    """What is said of a command, by what is said of it and of the line that it asks for, if it asks for one."""
+    if line is None or command.verdict in ("DENIED", "NOLOGON"):
+        return command
+    if line.verdict == "DENIED":
+        counting.met["who", "HIDDEN"] += 1
+        return dataclasses.replace(line, verdict="HIDDEN")
+    order = ("UNDECIDED", "WARNED", "ALLOWED")
+    return command if order.index(command.verdict) < order.index(line.verdict) else line
 
 
 def json_line(data: dict) -> str:
@@ -73,7 +84,7 @@ def share(lines: list[Line]) -> str:
 
 def summary(users: list[UserLine], raised: list[UserLine]) -> str:
     found = f"{share(users)} users"
-    for verdict, words in (("UNDECIDED", "undecided"), ("NOLOGON", "cannot log on")):
+    for verdict, words in (("UNDECIDED", "undecided"), ("NOLOGON", "cannot log on"), ("HIDDEN", "shown nothing")):
         count = sum(line.verdict == verdict for line in users)
         found += f", {count} {words}" if count else ""
     return found + (f", {share(raised)} at one console alone" if raised else "")

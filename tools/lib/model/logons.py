@@ -1,4 +1,4 @@
-"""Who gets on at a console where nobody is on: the machine is asked, by a user who has the right password."""
+"""Who can log on at an unattended console: the machine is asked, by a user who has the right password."""
 import hashlib
 
 from . import counting
@@ -20,11 +20,9 @@ def tried(state: State, console: str, user: str) -> tuple[bool, str]:
 
 
 def why_not(state: State, console: str | None, user: str) -> str | None:
-    """Why a user does not get on at the console, or at any without one; none if the user does."""
+    """Why a user cannot log on at the console, or at any without one; none if the user does."""
     if console is None:
-        # (a policy without consoles is a part of one, and does not tell)
-        known = state.board.consoles
-        return "NOCONSOLE" if known and all(why_not(state, name, user) for name in known) else None
+        return "NOCONSOLE" if all(why_not(state, name, user) for name in state.board.consoles) else None
     if state.acting(console) == user:
         return None
     is_admitted, rule = tried(state, console, user)

@@ -71,7 +71,7 @@ def of_profile(_: Known, row: Fields) -> Iterator[tuple[str, str]]:
 def of_user(known: Known, row: Fields) -> Iterator[tuple[str, str]]:
     name = row["name"]
     if not row["digest"] and "R" not in row["flags"] and not known.has_auto_console(name):
-        yield "N03", f"{name} has no digest and no AUTO console: nobody gets on"
+        yield "N03", f"{name} has no digest and no AUTO console, so cannot log on"
     same = [other["name"] for other in known.of("user") if row["digest"] and other["digest"] == row["digest"]]
     if same and same[0] != name:
         yield "N04", f"{name} has the password of {same[0]}"
@@ -103,7 +103,8 @@ def of_permit(known: Known, row: Fields) -> Iterator[tuple[str, str]]:
 def of_console(known: Known, row: Fields) -> Iterator[tuple[str, str]]:
     name = row["name"]
     if row["flags"] == "OPTIONAL":
-        yield "N11", f"console {name} is OPTIONAL: nobody on enters {OPENED.get(row['value'], row['value'])}"
+        opened = OPENED.get(row["value"], row["value"])
+        yield "N11", f"console {name} is OPTIONAL: without a logon it allows {opened}"
     if row["flags"] == "AUTO" and not known.is_user(name):
         yield "N12", f"console {name} is AUTO, and there is no user {name}"
     if row["flags"] == "AUTO" and name in known.acting("S"):
@@ -135,8 +136,9 @@ OF_ROW = {
 }
 
 
-def notes(rows: list[files.Row]) -> list[Fields]:
-    """The notes, by their codes, then by their rows; a note of no row is the last of its code."""
+def notes(rows: list[files.Row], begins: list[int]) -> list[Fields]:
+    """The notes, by their codes, then by their rows; a note of no row is the last of its code. Rows that begin on no
+    line are those of tables, and are shown themselves."""
     known = Known(rows)
     found = [
         {"code": code, "row": row["number"], "text": text}
@@ -146,11 +148,21 @@ def notes(rows: list[files.Row]) -> list[Fields]:
     found += [{"code": code, "row": None, "text": text} for code, text in of_none(known)]
     for note in found:
         counting.met["check", note["code"]] += 1
+    for note in found:
+        note["line"] = begins[note["row"]] if begins and note["row"] is not None else None
+        if not begins and note["row"] is not None:
+            note["fields"] = files.shown(rows[note["row"] - 1])
     return sorted(found, key=lambda note: (note["code"], note["row"] is None, note["row"] or 0))
+
+
+def place(values: Fields) -> str:
+    """A row, with the line on which it begins, or with its fields, if that is known."""
+    fields = f" ({values['fields']})" if "fields" in values else ""
+    return f"row {values['row']}{fields}" + ("" if values["line"] is None else f", line {values['line']}")
 
 
 def line(note: Fields, as_json: bool) -> str:
     if as_json:
-        return json.dumps(note, separators=(",", ":"))
-    row = "" if note["row"] is None else f"row {note['row']}: "
+        return json.dumps(note, separators=(",", ":"), sort_keys=True)
+    row = "" if note["row"] is None else f"{place(note)}: "
     return f"{note['code']} {row}{note['text']}"

@@ -182,7 +182,7 @@ def state_of(data: bytes) -> State:
 
 
 def with_doors(chance: Random) -> list[Row]:
-    """A first policy in which some users have no digest, and some consoles are kept from some users."""
+    """A first policy in which some users have no digest, and some consoles and units are kept from some users."""
     rows = [
         (*made[:7], "", *made[8:]) if made[0] == "user" and one_in(chance, 6) else made
         for made in first_policy(chance)
@@ -195,4 +195,9 @@ def with_doors(chance: Random) -> list[Row]:
         for _ in range(chance.choice((0, 1, 3)))
     ]
     ids = [made[2] for made in rows if made[0] in ("user", "group")]
-    return rows + doors + [permit_row(chance, doors, ids) for _ in range(6) if doors]
+    lines = [
+        row("profile", of="OPERCMDS", name=f"MVS.DISPLAY.JOB.{name}", value="NONE", owner="SECADM")
+        for name in (*world.UNITS, "*") if one_in(chance, 6)
+    ]
+    kept = doors + lines
+    return rows + kept + [permit_row(chance, kept, ids) for _ in range(6) if kept]

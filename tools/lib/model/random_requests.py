@@ -1,4 +1,4 @@
-"""Random requests over HTTP: operations, imports, listings, commands, and now and then what does not read as a
+"""Random requests over HTTP: operations, imports, listings, commands, and now and then what is no valid
 request."""
 import json
 from random import Random

@@ -47,14 +47,14 @@ def slip(line: str) -> str:
     moment, _, rest = line.partition(" ")
     console, more, _ = rest.partition(" ")
     if not (moment.isascii() and moment.isdigit()):
-        return "no moment"
+        return "no time"
     if len(moment) > 13:
-        return "the moment has more than 13 digits"
+        return "the time has more than 13 digits"
     if not rest or more and not console:
         return "no console"
     if not more:
         return "no command"
-    return "the event does not read" if console == "*" else "the console's name does not read"
+    return "the event is invalid" if console == "*" else "the console's name is invalid"
 
 
 def past_word(text: str) -> str:
@@ -64,13 +64,25 @@ def past_word(text: str) -> str:
 
 def shown(line: str) -> str:
     """What is shown of a line that is no request, since a password may follow the word that is wrong."""
-    words = {"no moment": 1, "the moment has more than 13 digits": 1, "the event does not read": 3}
+    words = {"no time": 1, "the time has more than 13 digits": 1, "the event is invalid": 3}
     rest = line
     for _ in range(words.get(slip(line), 2)):
         rest = past_word(rest)
     start = line[: len(line) - len(rest)]
     text = "".join(SHORT.get(c) or (c if c.isprintable() else f"\\u{{{ord(c):x}}}") for c in start[:MOST_SHOWN])
     return f'"{text}"' + ".." * (bool(rest) or len(start) > MOST_SHOWN)
+
+
+def form(line: str) -> str:
+    """How such a line is written; of a day or a time in the place of the moment also what a moment is."""
+    if slip(line) == "the event is invalid":
+        return "of an event is TIME * EVENT; events: JOBIN, JOBEND, ATTACH, ALLOCATE, FREE, ASK, RESUME"
+    time = {
+        "no time": "[-0-9/.]{8}", "the time has more than 13 digits": "[0-9]{8}",
+        "the console's name is invalid": r"[0-9]+ [0-9]+(?=[ ,]|\Z)",
+    }.get(slip(line))
+    has_time = time and re.match(time, line[:MOST_SHOWN])
+    return f"is TIME CONSOLE COMMAND{'; TIME is in seconds since 1970' if has_time else ''}"
 
 
 def why_bad(data: bytes, number: int) -> str:
@@ -80,8 +92,7 @@ def why_bad(data: bytes, number: int) -> str:
     lines = data.decode().split("\n")
     line = lines[number - 1]
     line = line.removesuffix("\r") if number < len(lines) else line
-    form = "of an event is MOMENT * EVENT" if slip(line) == "the event does not read" else "is MOMENT CONSOLE COMMAND"
-    return f"opcmds: script, line {number}: {slip(line)}: {shown(line)} (a line {form})"
+    return f"opcmds: script, line {number}: {slip(line)}: {shown(line)} (a line {form(line)})"
 
 
 def printed(moment: int, answer: requests.Answer) -> str:

@@ -81,7 +81,7 @@ def sourced(words: dict[str, str], rows: bytes, file: str) -> tuple[dict[str, st
 
 
 def asked(command: str, words: dict[str, str], rows: bytes, file: str) -> Answers:
-    """What the program answers over a policy file; words that do not read are reported by a text that no rule fixes."""
+    """What the program answers over a policy file; invalid arguments are reported by a text that no rule fixes."""
     words, data = sourced(words, rows, file)
     status, output, errors = run([command, *options_of(words)], data)
     return [(command, (status, output, None if status == 2 and not errors.startswith("E60 ") else errors))]
@@ -118,7 +118,7 @@ class Explain:
             "as": None, "class": of, "console": console, "group": None, "level": level, "resource": resource,
             "user": user,
         }
-        output = why.printed(question, [], covering, (outcome, rule), self.words)
+        output = why.printed(question, [(None, covering)], (outcome, rule), self.words)
         return [("explain", (int(outcome == "DENIED"), output, ""))]
 
 
@@ -145,7 +145,7 @@ class ExplainCommand:
         except Fault as fault:
             return [("explain", refused("explain", fault))]
         counting.met["explain", outcome] += 1
-        return [("explain", (int(outcome in ("DENIED", "NOLOGON")), output, ""))]
+        return [("explain", (int(outcome in ("DENIED", "HIDDEN", "NOLOGON")), output, ""))]
 
 
 @dataclass
@@ -196,7 +196,8 @@ class Check:
         if output:
             return [("check", (2, output, ""))]
         counting.met["check", "good"] += 1
-        return [("check", (*check.noted(rows, self.allowed, self.as_json), ""))]
+        begins = files.lines_of(self.data.decode())
+        return [("check", (*check.noted(rows, begins, self.allowed, self.as_json), ""))]
 
 
 def on_board(state: State, words: dict[str, str]) -> dict[str, str]:
@@ -225,7 +226,8 @@ class OverFile:
     def model(self, state: State) -> Answers:
         rows = state.exported().encode()
         if self.command == "check":
-            return Check("json" in self.words, self.words.get("allow", "").split(","), rows, {}).model(state)
+            allowed = self.words.get("allow", "").split(",")
+            return [("check", (*check.noted(files.read(rows), [], allowed, "json" in self.words), ""))]
         if self.command == "who":
             step = Who
         else:

@@ -26,7 +26,10 @@ def ran(state: machine.State, script: Iterable[str]) -> list[str]:
 def imported(state: machine.State, moment: str, console: str, number: str, records: str) -> list[str]:
     rows = files.read(rooms.policy_file(records.split(";")).encode())
     answer = state.handle(accounts.kept(moment), requests.Import(console, int(number), rows))
-    return ["status 1", f"{answer.code} {answer.text}"] if answer.code else answer.lines
+    if not answer.code:
+        return answer.lines
+    second = [f"opcmds: console {console}: there is no such console"] if answer.code == "E10" else []
+    return ["status 1", f"{answer.code} {answer.text}", *second]
 
 
 def sent(data: bytes) -> Sent:

@@ -1,5 +1,5 @@
 """Who may do what, as `who` prints it: each user, each user whom an entry for one console raises there, and each
-console where nobody is on."""
+unattended console."""
 from . import counting, lines, logons, names, policy, questions
 from .faults import Fault, wants
 from .lines import ConsoleLine, Said, UserLine
@@ -79,6 +79,18 @@ def at_console(state: State, name: str, user: str, need: Need) -> UserLine:
     return UserLine(verdict, user, f"GROUP {need.group} AUTH {auth}")
 
 
+def of_logon(state: State, console: str, user: str) -> UserLine:
+    """What is said of a user who logs on at the console."""
+    is_admitted, rule = logons.tried(state, console, user)
+    line, _ = of_user(state.policy, "CONSOLE", console, "READ", user, console)
+    if rule == "NODIGEST":
+        line = UserLine("DENIED", user, rule)
+    elif line.verdict == "UNDECIDED":
+        line = UserLine("ALLOWED", user, "NOPROFILE")
+    assert lines.may(line) == is_admitted and line.rule == rule, (line, rule)
+    return line
+
+
 def decides(held: Policy, of: str, resource: str) -> str:
     pattern = policy.deciding(held, of, resource)
     if of not in held.active:
@@ -105,29 +117,52 @@ def nothing(words: dict[str, str]) -> str:
     return lines.json_line({"needs": "nothing"}) if "json" in words else "NEEDS NOTHING\n"
 
 
-def of_command_by(state: State, need: Need, console: str | None, user: str) -> UserLine:
-    """What is said of a user who enters a command, at a console or at none."""
-    line = at_console(state, console, user, need) if console else of_need(state, need, user, None)[0]
-    return line if line.verdict == "DENIED" else lines.kept_off(line, logons.why_not(state, console, user))
+def of_command_by(state: State, needed: list[Need], console: str | None, user: str) -> UserLine:
+    """What is said of a user who enters a command, at a console or at none. The first need is the command's own, and a
+    second that of the line that it asks for."""
+    command, *line = [
+        at_console(state, console, user, need) if console else of_need(state, need, user, None)[0] for need in needed
+    ]
+    why = None if command.verdict == "DENIED" else logons.why_not(state, console, user)
+    return lines.shown(lines.kept_off(command, why), *line)
+
+
+def is_raised(state: State, needed: list[Need], console: str, user: str) -> bool:
+    """Whether an entry for the console alone gives the user a level there."""
+    return any(of_need(state, need, user, console)[1] for need in needed)
 
 
 def of_command(state: State, words: dict[str, str]) -> str:
     """The answer about a command, at a console if one is named."""
-    need, console = questions.need_of(words), words.get("console")
+    needed, console = questions.needs_of(words), words.get("console")
     wants(console is None or console in state.board.consoles, "E10")
     there, everybody = sorted(state.board.consoles) if console is None else [console], sorted(state.policy.users)
-    asked = question(state.policy, "OPERCMDS", need.resource, need.level, need.group)
-    asked["as"] = questions.taken_for(words)
-    first = [questions.first_line(need, words), decides(state.policy, "OPERCMDS", need.resource)]
-    consoles = [of_console(state, name, need) for name in there]
-    said = Said(first, [asked], [of_command_by(state, need, console, user) for user in everybody], consoles=consoles)
-    said.end = f", {lines.share(consoles)} consoles with nobody on"
+    asked = [question(state.policy, "OPERCMDS", need.resource, need.level, need.group) for need in needed]
+    asked[0]["as"] = questions.taken_for(words)
+    asked[-1]["kind"] = "shows" if asked[1:] else "question"
+    first = [
+        text
+        for line, need in zip(questions.first_lines(needed, words), needed)
+        for text in (line, decides(state.policy, "OPERCMDS", need.resource))
+    ]
+    consoles = [lines.shown(*(of_console(state, name, need) for need in needed)) for name in there]
+    said = Said(first, asked, [of_command_by(state, needed, console, user) for user in everybody], consoles=consoles)
+    said.end = f", {lines.share(consoles)} unattended consoles"
     if console is None:
         said.raised = [
-            of_command_by(state, need, name, user)
-            for name in there for user in everybody if of_need(state, need, user, name)[1]
+            of_command_by(state, needed, name, user)
+            for name in there for user in everybody if is_raised(state, needed, name, user)
         ]
     return said.printed(words)
+
+
+def of_logons(state: State, words: dict[str, str]) -> str:
+    """The answer about a LOGON at a console."""
+    console = words["console"]
+    wants(console in state.board.consoles, "E10")
+    first = [f"NEEDS READ {console} CLASS CONSOLE", decides(state.policy, "CONSOLE", console)]
+    users = [of_logon(state, console, user) for user in sorted(state.policy.users)]
+    return Said(first, [question(state.policy, "CONSOLE", console, "READ", None)], users).printed(words)
 
 
 def of_access(state: State, of: str, words: dict[str, str]) -> str:
@@ -148,4 +183,4 @@ def answer(state: State, words: dict[str, str]) -> str:
         return of_access(state, words.get("class", "OPERCMDS"), words)
     if questions.is_about_nothing(words):
         return nothing(words)
-    return of_command(state, words)
+    return of_logons(state, words) if questions.asks_to_log_on(words) else of_command(state, words)

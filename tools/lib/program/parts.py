@@ -24,7 +24,7 @@ from .readers import readers
 from .room import SECONDS, Ran, Room, asked
 
 HELPS = ("--help", "explain --help", "help explain", "run --help", "serve --help", "who --help", "check --help",
-         "account --help", "digest --help")
+         "account --help", "digest --help", "commands --help")
 # requests that leave rows in every table, with the batch
 SCRIPT = """\
 1 * JOBIN PAY JOB
@@ -46,7 +46,10 @@ SCRIPT = """\
 BATCH = f"{HEADER}\ngroup,,DAY,,,,,\n"
 UNITS = 1_000  # more than the names that are cached
 CROWD, COMMAS, MEMORY = 400, 4_000_000, 24_000  # with all lines or fields at once it takes more KB than that
-TOO_LONG = b"row 26: it has more than 10 columns and not 8\n1 of 26 rows is bad\n"
+TOO_LONG = b"""\
+row 26, line 27: it has more than 10 columns and not 8; quote a field that has a comma: "SYS,IO"
+1 of 26 rows is bad
+"""
 # texts with what a terminal acts on or hides, and the line of a display that a terminal shows for each
 TEXTS = {
     "MOUNT \x1b[31mRED": r"MOUNT \u{1b}[31mRED",
@@ -407,6 +410,7 @@ PARTS: dict[str, Callable[[Room], None]] = {
     "version": says_version,
     "words": table("words"),
     "screen": table("screen"),
+    "commands": table("commands"),
     "scripts": table("scripts"),
     "now": now,
     "files": table("files"),

@@ -16,6 +16,8 @@ from .room import Ran, Room, make
 QUESTIONS = ("account", "who --command 'D U'", "explain --user ANNA --command 'D U'", "check")
 NOBODY = 65534
 NOT_OURS = "E92 NotOurs {}\nopcmds: database {}: {}\n"
+LEAST_LOG = 568  # bytes: its header, that of a page, and the smallest page
+MOVED = "E91 Store\nopcmds: database {}: missing, but its log (-wal) is there; move the log along, or remove it\n"
 # what is in the log alone after a kill
 LINES = ("C3 D U", "C1 FORCE X", "C1 LOGON ANNA,ABC")
 # A process of its own, since whoever closes a file gives up all locks that its process has on it.
@@ -152,6 +154,9 @@ def refused(room: Room) -> None:
     shelf.stays("no database", f"E91 Store\nopcmds: database {shelf.path}: not a database\n")
     shelf = Shelf(room, "missing")
     shelf.stays("a missing file", f"E91 Store\nopcmds: database {shelf.path}: No such file or directory\n")
+    with open(f"{shelf.path}-wal", "wb") as log:
+        log.write(bytes(LEAST_LOG))
+    shelf.stays("a missing file beside a log", MOVED.format(shelf.path))
 
 
 def strange_log(shelf: Shelf) -> None:

@@ -1,7 +1,8 @@
-"""The page of what is proved, crate by crate: their public functions, by the sources, with the first sentence of what
-stands above each and the names of its clauses."""
+"""The index of what is proved, crate by crate: their public functions, by the sources; of a law what it says, of a call
+the clauses that few others have."""
 import re
-from collections.abc import Iterable
+from collections import Counter
+from collections.abc import Container, Iterable
 from typing import NamedTuple
 
 from lib import crates
@@ -13,19 +14,31 @@ CLAUSE = re.compile(r" *(?:ensures|requires)(?: (\w+))? \{")
 OF_TYPE = re.compile(r"(?:&?\w+::)*(\w+)")
 OF_TRAIT = re.compile(r"((?:\w+::)*\w+)(?:<.*>)? for (.*)")
 SENTENCE = re.compile(r"(?s).*?\.(?=\s|$)")
-# A sentence of fewer words than SHORT gets the next one. One of fewer than FEWEST says hardly more than the name, as
-# `The row of this key.` does of `find`: if no clause has a name either, the function is only named.
-SHORT, FEWEST = 6, 9
+CODES = re.compile(r" \(E\d[^)]*\)")
+# Where a sentence may end before its end: what follows only explains.
+ENDS = re.compile(r"; |: |, (?:so|which|as|since) ")
+# Where a long one breaks off: what follows says more.
+BREAKS = re.compile(r",? (?:and|unless|or) ")
+# A sentence of fewer words than SHORT gets the next one, and none ends before it has LEAST.
+SHORT, LEAST = 6, 7
+# A sentence of more words than LONG breaks off, and none does before it has ENOUGH.
+LONG, ENOUGH = 17, 11
+# Words as long as those that count, which say nothing of their own.
+PLAIN = {*"that which what whose there with from have where they this each none them only other after".split()}
+PLAIN |= {"before", "these", "those"}
+STEM, SAID = 4, 0.6  # letters; the share of a law's words that its name has if it says the law
+# A clause name that more functions of the product have, as `ok`, says little.
+FEW = 1
 PAGE = """\
 # What is proved, crate by crate
 
-`tools/repo proved --write` makes this page from the sources, and `tools/selftest` checks it. \
-[PROVED.md](PROVED.md) says what it comes to.
+`tools/repo proved --write` makes this index from the sources, and `tools/selftest` checks it. \
+[PROVED.md](PROVED.md) says what this means, and [ARCHITECTURE.md](ARCHITECTURE.md) what each crate is.
 
-The crates stand in the order of crates.txt, each after those below it. A line has a public function, the names of \
-its clauses if they have any, and the first sentence above it, or two if that is short; its source, the file below \
-`src` with which the path begins, has the rest. A *law* is a function without a body: it ensures a statement about \
-definitions. Functions of which little is to be said are only named.
+The crates stand in the order of crates.txt, each after those below it. A *law* ensures a statement about definitions, \
+and has no body: the words are the beginning of what its source says, and some say all by their names. Other public \
+functions stand behind their file below `src`, with the names of those of their clauses that are not common. Each has \
+clauses, unless the list says otherwise.
 
 {sections}
 """
@@ -41,10 +54,6 @@ class Function(NamedTuple):
     @property
     def names(self) -> list[str]:
         return [name for name in self.clauses if name]
-
-    @property
-    def has_line(self) -> bool:
-        return self.is_law or bool(self.names) or bool(self.clauses) and len(self.sentence.split()) >= FEWEST
 
 
 def without_parameters(text: str) -> str:
@@ -74,6 +83,15 @@ def sentence_of(remarks: list[str]) -> str:
     text = re.sub(r",$", ".", " ".join(line.strip()[3:].strip() for line in remarks))
     first, *more = SENTENCE.findall(text) or [text]
     return "".join([first, *more[:1]]) if len(first.split()) < SHORT else first
+
+
+def brief(sentence: str) -> str:
+    """A sentence up to its first natural end, without the codes of faults; a long one up to where it says more."""
+    plain = CODES.sub("", sentence)
+    ends = (it.start() for it in ENDS.finditer(plain))
+    said = next((f"{plain[:end]}." for end in ends if len(plain[:end].split()) >= LEAST), plain)
+    breaks = (it.start() for it in BREAKS.finditer(said)) if len(said.split()) > LONG else ()
+    return next((f"{said[:at]} .." for at in breaks if len(said[:at].split()) >= ENOUGH), said)
 
 
 def remarks_above(lines: list[str], at: int) -> list[str]:
@@ -115,12 +133,6 @@ def functions_in(module: str, text: str) -> list[Function]:
     return found
 
 
-def traits_in(text: str) -> list[tuple[str, str]]:
-    """Each type of a file with a trait that it has there."""
-    found = [part_of(line) for line in text.splitlines()]
-    return [(owner, trait) for owner, trait in found if owner and trait]
-
-
 def public_in(files: dict[str, str]) -> set[str]:
     """The modules of a crate that are public, and the types and functions that are so by their module or by lib.rt."""
     modules = {"", *re.findall(r"(?m)^pub mod (\w+);", files[""])}
@@ -151,39 +163,53 @@ def quoted(items: Iterable[str]) -> str:
     return ", ".join(f"`{it}`" for it in items)
 
 
-def line_of(function: Function) -> str:
-    clauses = f" ({quoted(function.names)})" if function.names else ""
-    return f"- `{function.path}`{clauses}: {function.sentence}"
+def is_said_by_name(law: Function) -> bool:
+    """Whether the name of a law has most of the words of its sentence, by their first letters."""
+    name = {it[:STEM] for it in law.path.rpartition("::")[2].split("_")}
+    words = [it for it in re.findall(rf"[a-z]{{{STEM},}}", brief(law.sentence).lower()) if it not in PLAIN]
+    return bool(words) and sum(it[:STEM] in name for it in words) >= SAID * len(words)
 
 
-def kept_of(files: dict[str, str], declared: set[str]) -> dict[str, list[str]]:
-    """The declared traits whose contracts types of a crate keep, each with these types: those that have a name, and not
-    `R` for all."""
-    kept: dict[str, list[str]] = {}
-    for owner, trait in (it for text in files.values() for it in traits_in(text)):
-        if trait in declared and len(owner) > 1:
-            kept.setdefault(trait, []).append(owner)
-    return kept
+def lines_of(laws: list[Function]) -> list[str]:
+    """What each law says, and last those whose names do."""
+    named = [it.path for it in laws if is_said_by_name(it)]
+    lines = [f"- `{it.path}`: {brief(it.sentence)}" for it in laws if it.path not in named]
+    return [*lines, f"- {quoted(named)}"] if named else lines
 
 
-def section_of(name: str, files: dict[str, str], declared: set[str]) -> str:
-    """The section of a crate; `declared` are the traits of the product."""
-    functions = [it for module, text in files.items() for it in functions_in(module, text)]
+def calls_of(module: str, functions: list[Function], rare: Container[str]) -> str:
+    """The line of a file: its functions, each with those of its clauses that are rare."""
+    found = []
+    for it in functions:
+        names = [name for name in it.names if name in rare]
+        inside = it.path.removeprefix(f"{module}::")
+        found.append(f"`{inside}`" + (f" ({quoted(names)})" if names else ""))
+    return f"`{module or 'lib'}`: {', '.join(found)}."
+
+
+def public_of(files: dict[str, str]) -> dict[str, list[Function]]:
+    """The public functions of a crate, by their modules."""
     public = public_in(files)
-    functions = [it for it in functions if is_public(it, public)]
-    parts = [f"## `{name}`", sentence_of([it for it in files[""].splitlines() if it.startswith("//!")])]
-    parts.append("\n".join(line_of(it) for it in functions if it.has_line))
-    others = [it.path for it in functions if it.clauses and not it.has_line]
-    parts.append(f"Others with clauses: {quoted(others)}." if others else "")
-    without = [it.path for it in functions if not it.clauses]
+    return {
+        module: [it for it in functions_in(module, text) if is_public(it, public)] for module, text in files.items()
+    }
+
+
+def section_of(name: str, files: dict[str, str], rare: Container[str]) -> str:
+    """The section of a crate; `rare` are the clauses that few have."""
+    functions = public_of(files)
+    laws = lines_of([it for found in functions.values() for it in found if it.is_law])
+    calls = {module: [it for it in found if not it.is_law] for module, found in functions.items()}
+    lines = [calls_of(module, found, rare) for module, found in calls.items() if found]
+    without = [it.path for found in functions.values() for it in found if not it.clauses]
+    parts = [f"## `{name}`", "\n".join(laws), "\n".join(lines)]
     parts.append(f"Without a clause: {quoted(without)}." if without else "")
-    kept = [f"`{trait}` ({quoted(dict.fromkeys(owners))})" for trait, owners in kept_of(files, declared).items()]
-    parts.append(f"Keep what a trait promises: {', '.join(kept)}." if kept else "")
     return "\n\n".join(part for part in parts if part)
 
 
 def page() -> str:
     found = {name: files_of(name) for name in crates.product_crates() if crates.has_contracts(name)}
-    texts = "\n".join(text for files in found.values() for text in files.values())
-    declared = {*re.findall(r"(?m)^pub trait (\w+)", texts)}
-    return PAGE.format(sections="\n\n".join(section_of(*it, declared) for it in found.items()))
+    functions = [it for files in found.values() for those in public_of(files).values() for it in those]
+    counts = Counter(name for it in functions for name in {*it.names})
+    rare = {name for name, count in counts.items() if count <= FEW}
+    return PAGE.format(sections="\n\n".join(section_of(*it, rare) for it in found.items()))

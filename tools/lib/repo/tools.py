@@ -5,10 +5,13 @@ import re
 from typing import NamedTuple
 
 from lib.places import TOP
+from lib.repo.proved import brief
 
 FOLDER = f"{TOP}/tools"
 PYTHON = "#!/usr/bin/env python3\n"
 SENTENCE = re.compile(r"(?s).*?\.(?=\s|$)")
+# A call with more words than these is shown without them.
+MOST_WORDS = 4
 HOW_LONG = re.compile(r"(?s)\bHow\s+long:\s(.*?)\.(?=\s|$)")
 PAGE = """\
 # The tools
@@ -20,9 +23,8 @@ Run the tools at the top of the repository. The last line of a tool that tests i
 status is 0 if M is 0. Most failures are a line with the title of the check, `no, but` and the actual result. Times \
 are rough, and differ between computers.
 
-The parts of `tools/NAME` are in `tools/lib/NAME`, and parts that several tools use are in `tools/lib`. Their tests \
-are in a folder `tests` beside them. C programs to compare with are in `tools/lib/bench`; the libraries that are \
-preloaded over the C library are in `tools/lib/inject`.
+The parts of `tools/NAME` are in `tools/lib/NAME`, what several tools use in `tools/lib`, and tests in a folder \
+`tests` beside them.
 
 ## Over the program
 
@@ -53,10 +55,11 @@ def head_of(text: str) -> str:
 
 
 def call_of(name: str, head: str) -> str:
-    """The first form of the call, without what the head says of it; continued where the next line begins with [."""
+    """The first form of the call, without what the head says of it; continued where the next line begins with [. Of
+    many words only that there are some."""
     found = re.search(rf"(?m)^  {re.escape(name)}(?= |$)(.*(?:\n {{6,}}\[.*)*)", head)
-    words = re.sub(r"\n +", " ", found[1]) if found else ""
-    return f"tools/{name}{re.split(r' {2,}', words)[0]}"
+    words = re.split(r" {2,}", re.sub(r"\n +", " ", found[1]) if found else "")[0]
+    return f"tools/{name}{words if len(words.split()) <= MOST_WORDS else ' ..'}"
 
 
 def tool_of(name: str, text: str) -> Tool:
@@ -79,7 +82,7 @@ def tools() -> list[Tool]:
 
 
 def table_of(rows: list[Tool]) -> str:
-    cells = [(f"`{it.call}`", it.sentence, it.how_long) for it in rows]
+    cells = [(f"`{it.call}`", brief(it.sentence), it.how_long) for it in rows]
     lines = ["| " + " | ".join(cell.replace("|", r"\|") for cell in row) + " |" for row in cells]
     return "\n".join(["| Tool | What it does | How long |", "|---|---|---|", *lines])
 

@@ -52,7 +52,7 @@ WRONG = {
     "to no route": ("POST", "/consoles/C2", 404, None),
     "with a query": ("POST", f"{COMMAND}?a=b", 404, None),
     "by another method": ("OPTIONS", COMMAND, 405, "POST"),
-    "to a console that does not read": ("POST", "/consoles/c2/command", 400, None),
+    "to an invalid console": ("POST", "/consoles/c2/command", 400, None),
 }
 # What a plain form of text sends as its body: of a key that stands twice the last one counts.
 USER = {"op": "AddUser", "id": "EVIL", "special": True, "auditor": False, "digest": None, "restricted": False}

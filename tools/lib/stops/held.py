@@ -19,7 +19,7 @@ NO_DATABASE = "file is not a database"
 
 class Held(NamedTuple):
     """The tables as another program reads them in a copy, or what is wrong with it; how the program ended that opened
-    the file next; the tables after that; and what the work looks at besides."""
+    the file next; the tables after that, in the database file alone; and what the work looks at besides."""
     tables: Tables | str
     opened: files.Ran
     tables_then: Tables
@@ -76,7 +76,7 @@ class Known:
         bytes_of = digest(file)
         if bytes_of not in self.found:
             tables, opened = in_copy(file), self.opens(file)
-            self.found[bytes_of] = Held(tables, opened, files.tables(file), self.looks and self.looks(file))
+            self.found[bytes_of] = Held(tables, opened, files.tables_alone(file), self.looks and self.looks(file))
         return self.found[bytes_of]
 
 

@@ -29,15 +29,16 @@ class Export(Aborting):
 
 
 class Opening(Single):
-    """An export, from the start of the process on. The file is as it was or as the opening leaves it, as a whole, and
-    as the opening leaves it if anything was printed; and then the same export is good, and leaves it so. Of a new
-    file a page may be there in which nothing stands yet, which is no database to other programs."""
+    """An export, from the start of the process on; of a new file, which an export does not make, a script without a
+    line. The file is as it was or as the opening leaves it, as a whole, and as the opening leaves it if anything was
+    printed; and then the same run is good, and leaves it so. Of a new file a page may be there in which nothing stands
+    yet, which is no database to other programs."""
 
     is_whole = loses_most = True
     counted_from = None
 
     def __init__(self, name: str, version: int | None, state: Prepared) -> None:
-        super().__init__(f"an opening: {name}", state, ["export"], "", (0, "", ""))
+        super().__init__(f"an opening: {name}", state, ["export"] if version else ["run"], "", (0, "", ""))
         self.version, self.older = version, f"{state.path}-{version}"
         self.known = Known(opens=lambda file: self.run(file, {}))
 
@@ -57,12 +58,6 @@ class Opening(Single):
     def begin(self, file: str) -> None:
         if self.version:
             shutil.copy(self.older, file)
-
-    def seen(self, ran: files.Ran, file: str) -> files.Ran:
-        """The export, without the line that says of a new file that it was made, as far as that could be written."""
-        status, output, errors = ran
-        made = "" if self.version else files.made(file)
-        return status, output, "" if made.startswith(errors) else errors.removeprefix(made)
 
     def tables_in(self, file: str) -> Tables:
         return files.tables(file) if os.path.exists(file) else {}

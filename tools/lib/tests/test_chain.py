@@ -28,10 +28,10 @@ class Tables(unittest.TestCase):
     maxDiff = None
 
     def test_rows_are_read_and_written(self) -> None:
-        rows = ["| `opc_a` | ~1.5 |  | 2 in 0.3 |", "| `opc_t` | 0.1 | 2.0 |  |"]
+        rows = [f"{'opc_a':24}  ~1.5         2 in 0.3", f"{'opc_t':24}   0.1    2.0"]
         found = {"opc_a": Minutes(1.5, 0.0, "2 in 0.3", True), "opc_t": Minutes(0.1, 2.0)}
-        self.assertEqual(chain.minutes_in("\n".join([*rows, "| `opc_n` | soon |  |  |"])), found)
-        self.assertEqual(chain.rows_of(found), [*rows, "| all | ~1.6 | 2.0 | 2 in 0.3 |"])
+        self.assertEqual(chain.minutes_in("\n".join([*rows, f"{'opc_n':24}  soon"])), found)
+        self.assertEqual(chain.rows_of(found)[1:], [*rows, f"{'all':24}  ~1.6    2.0  2 in 0.3"])
 
     def test_what_the_full_test_prints_is_read(self) -> None:
         report = f"{'opc_a':27} {1.5:7.1f} {0.0:7.1f}   2 in 0.3\n{'opc_t':27} {0.1:7.1f} {2.0:7.1f}   \n"
@@ -55,5 +55,5 @@ class Tables(unittest.TestCase):
         page = chain.page_of({"opc_a": [], "opc_b": ["opc_a"]}, took)
         self.assertEqual(chain.minutes_in(page), took)
         self.assertIn("The longest chain is `opc_a`, `opc_b`.\n", page)
-        self.assertIn("| the longest chain of crates | at most 36 | 37.0: missed |\n", page)
-        self.assertIn("| all must-fail edits | at most 170 | 0.3: met |\n", page)
+        self.assertIn("| the longest chain of crates | 36 | 37.0: missed |\n", page)
+        self.assertIn("| all must-fail edits | 170 | 0.3: met |\n", page)

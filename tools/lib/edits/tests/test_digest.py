@@ -114,6 +114,11 @@ class Digests(unittest.TestCase):
     def test_comments_do_not_count(self) -> None:
         self.assert_same(texts=self.source("/// The first.", "/// The very first."))
         self.assert_same(texts=self.source("    // one more\n", ""))
+        self.assert_same(texts={"specs/Sums.antt": "-- a sum\n\npub sum : ℕ\nsum = 3\n"})
+        self.assert_same(texts={"proofs/first/Answers.antt": "-- by both\npub ensures-1 = tt\n"})
+        self.assertEqual(
+            self.digest(edit=OF_CONSTANT), self.digest(edit=OF_CONSTANT, texts=self.source("    // one more\n", ""))
+        )
 
     def test_what_is_stated_counts(self) -> None:
         self.assert_other(texts=self.source("requires { x ≤ 3 }", "requires { x ≤ 4 }"))

@@ -7,7 +7,7 @@ import unittest
 from types import SimpleNamespace
 from unittest import mock
 
-from lib.edits import trial
+from lib.edits import reading, trial
 from lib.edits.sources import functions
 
 SOURCE = """\
@@ -44,6 +44,13 @@ class Prover:
             text = file.read()
         only = [words[at + 1].split("::")[-1] for at, word in enumerate(words) if word == "--only"]
         self.lines, self.status, self.seconds, refused = [], 0, 10.0, 0
+        if only == [""]:
+            unread = [at for at, line in enumerate(text.split("\n"), 1) if "Unknown" in line]
+            self.lines = [f"src/lib.rt:{at}:1: error[unknown-name]: no such type" for at in unread]
+            self.lines.append("only=0 proved=0")
+            self.status, self.text = (1 if unread else 0), "\n".join(self.lines)
+            Prover.checks.append(only)
+            return
         asked = [function for function in functions(text) if not only or function.name in only]
         for function in asked:
             body = "\n".join(function.text)
@@ -79,7 +86,7 @@ class Trials(unittest.TestCase):
         Prover.checks = []
 
     def tried(
-        self, source: str = SOURCE, is_left_by_ci: bool = False, **edits: tuple[str, str]
+        self, source: str = SOURCE, is_left_by_ci: bool = False, is_only_read: bool = False, **edits: tuple[str, str]
     ) -> dict[str, tuple[bool, str]]:
         """What became of edits, each given as its old and its new text."""
         with open(f"{self.folder}/src/lib.rt", "w", encoding="utf-8") as out:
@@ -87,7 +94,8 @@ class Trials(unittest.TestCase):
         for name, (old, new) in edits.items():
             with open(f"{self.folder}/must-fail/{name}.edit", "w", encoding="utf-8") as out:
                 out.write(f"file: src/lib.rt\nold: {old}\nnew: {new}\n")
-        made = trial.Trial(self.room, "low", f"{self.room}/tried", lambda text: None, is_left_by_ci).run()
+        kind = reading.Reading if is_only_read else trial.Trial
+        made = kind(self.room, "low", f"{self.room}/tried", lambda text: None, is_left_by_ci).run()
         return {edit.name[: -len(".edit")]: made.given[edit] for edit in made.edits}
 
     def test_wrong_bodies_are_refused_as_twins_beside_their_control(self) -> None:
@@ -132,6 +140,16 @@ class Trials(unittest.TestCase):
         os.utime(f"{self.folder}/low.rlib", (0, 0))
         self.tried(is_left_by_ci=True, a=("self.at", "wrong"))
         self.assertEqual(Prover.checks, [["read"], ["read"]])
+
+    def test_edits_that_cannot_be_read_are_found_without_a_proof(self) -> None:
+        found = self.tried(
+            is_only_read=True, a=("n + 1", "Unknown"), b=("n < LIMIT", "wrong"), c=("self.at", "Unknown"),
+            d=("usize = 3", "usize = 4"),
+        )
+        unread = "its text cannot be read: src/lib.rt:{}:1: error[unknown-name]: no such type"
+        self.assertEqual({name for name, (is_read, _) in found.items() if is_read}, {"b", "d"})
+        self.assertEqual(found["c"][1], unread.format(9))
+        self.assertEqual({*map(tuple, Prover.checks)}, {("",)})
 
     def test_an_edit_whose_text_is_not_there_is_bad(self) -> None:
         self.assertEqual(

@@ -1,7 +1,7 @@
 """The help of a program as a table of its commands and options."""
 import unittest
 
-from lib.manual.help import Option, codes_of, commands_in, options_in, too_wide, usage_of
+from lib.manual.help import Command, Option, codes_of, commands_in, file_in, options_in, too_wide, usage_of
 
 SCREEN = """\
 Decides who may.
@@ -20,6 +20,9 @@ Says why
 Usage: gate explain --user USER (--json | --mode MODE)
                     --level LEVEL [--db FILE] [< POLICY]
 
+Arguments:
+  [FILE]  The policy
+
 Options:
       --user <USER>    The user: 1 to 8 name characters
       --db <FILE>
@@ -31,7 +34,10 @@ Options:
       --json           For programs
   -h, --help           Print help
 
-Status: 0
+It says why.
+
+Examples: gate explain
+Status: 0 allowed,
       --none  of the options
 """
 
@@ -47,6 +53,13 @@ class Help(unittest.TestCase):
         wanted = "gate explain --user USER (--json | --mode MODE) --level LEVEL [--db FILE] [< POLICY]"
         self.assertEqual((usage_of(SCREEN), usage_of(COMMAND)), ("gate COMMAND [OPTIONS]", wanted))
 
+    def test_rest(self) -> None:
+        command = Command("explain", "", [], file_in(COMMAND), COMMAND)
+        self.assertEqual(command.file, Option("", "FILE", "The policy"))
+        self.assertIsNone(file_in(SCREEN))
+        self.assertEqual(command.said(), ["Says why", "It says why."])
+        self.assertEqual(command.statuses(), "0 allowed, --none of the options")
+
     def test_width(self) -> None:
         self.assertEqual(too_wide("x" * 78 + "\n" + "y" * 79), ["y" * 79])
 
@@ -59,9 +72,9 @@ class Help(unittest.TestCase):
         self.assertEqual(
             options_in(COMMAND),
             [
-                Option("--user", "USER", "The user: 1 to 8 name characters", True),
+                Option("--user", "USER", "The user: 1 to 8 name characters"),
                 Option("--db", "FILE", "The database file, which is there"),
-                Option("--level", "LEVEL", "The level: NONE, READ or UPDATE [default: READ]", True),
+                Option("--level", "LEVEL", "The level: NONE, READ or UPDATE [default: READ]"),
                 Option("--logon", "LOGON", "The logon [possible values: OPTIONAL, AUTO]"),
                 Option("--mode", "MODE", "The mode, 600 or 660; 600 without this"),
                 Option("--json", "", "For programs"),

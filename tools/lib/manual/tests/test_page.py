@@ -1,135 +1,120 @@
-"""What the manual lacks of the help, and the other way round."""
+"""The manual page that is made, and the one that is in the repository."""
 import unittest
 
+from lib.files import bytes_of
+from lib.manual import page
 from lib.manual.help import Command, Option
-from lib.manual.page import (
-    codes_in, differences, display_in, examples_in, misplaced_in, notes_in, operations_in,
-)
+from lib.version import version
 
-PAGE = """\
-.Sh NAME
-.Nm gate
-.Sh SYNOPSIS
-.Nm
-.Cm serve
-.Fl -db Ar file
-.Bro
-.Fl -port Ar number |
-.Fl -socket Ar path
-.Brc
-.Op Fl -strict
-.Nm
-.Op Ar command
-.Fl -help
-.Sh COMMANDS
-.Bl -tag -width Ds
-.It Cm serve
-Serves.
-.Bl -tag -width Ds
-.It Fl -db Ar file
-The file.
-.It Fl -port Ar number
-The port.
-.It Fl -socket Ar path
-The socket.
-.It Fl -strict
-Strictly.
-.El
-.El
-.Sh OPERATOR COMMANDS
-They are
-.Bd -literal -offset indent
-COMMAND GROUP
-LOGOFF  -
-.Ed
-.Sh NOTES ON A POLICY
-.Bl -tag
-.It Sy N01
-It warns.
-.It Sy N03
-Nobody gets on.
-.El
-.Sh HTTP
-.Bl -tag
-.It Li Connect , Remove
-.Li user , group
-.It Li DelUser
-.Li id
-.El
-.Sh EXAMPLES
-.Dl gate serve --db x
-.Sh DIAGNOSTICS
-.It Sy E03 BadCharacter Ar at
-It has a character outside
-of these.
-.It Sy E10 NoConsole
-There is none.
-.El
-"""
 SERVE = Command(
     "serve",
-    "Serves",
-    [
-        Option("--db", "FILE", "", True),
-        Option("--port", "NUMBER", ""),
-        Option("--socket", "PATH", ""),
-        Option("--strict", "", ""),
-        Option("--help", "", ""),
-    ],
+    "serve it",
+    [Option("--db", "FILE", "The file; - is none"), Option("--strict", "", "As --db: so"), Option("--help", "", "")],
+    Option("", "FILE", "The policy"),
+    "Serves. Well\n\nUsage: gate serve --db FILE (--port N | --socket P) [--strict] [< POLICY]\n\n"
+    "Options:\n      --db <FILE>\n\nPrints what\nit does.\n\nExample: gate serve\nStatus: 0 served,\n        1 not\n",
 )
-HELP = Command("help", "Helps", [])
+SYNOPSIS = """\
+.Nm
+.Cm serve
+.Fl -db
+.Ar FILE
+.Bro
+.Fl -port
+.Ar N
+|
+.Fl -socket
+.Ar P
+.Brc
+.Oo
+.Fl -strict
+.Oc
+.Oo
+<
+.Ar POLICY
+.Oc"""
+SAID = """\
+.It Cm serve
+Serves.
+Well.
+.Pp
+Prints what it does.
+.Bl -tag -width Ds
+.It Ar FILE
+The policy.
+.It Fl -db Ar FILE
+The file; \\- is none.
+.It Fl -strict
+As \\-\\-db: so.
+.El"""
 
 
-def without(name: str) -> Command:
-    return SERVE._replace(options=[option for option in SERVE.options if option.name != name])
+BLOCKS = {
+    "of [one](a.md#b) `x`, or *`a b`*. It\nis": ".Pp\nof one \\%\\fBx\\fR, or \\%\\(oqa \\%b\\(cq.\nIt is.",
+    "- `--x` **or**\n- b;": ".Bl -bullet -compact\n.It\n\\%\\fB\\-\\-x\\fR or.\n.It\nb;\n.El",
+    "1. one:\n   - a\n   - b\n2. two": ".Bl -enum -compact\n.It\none:\n.Bl -bullet -compact\n.It\na.\n.It\nb.\n.El\n"
+    ".It\ntwo.\n.El",
+    "```\na `b`\n\n.c \\d\n```": ".Bd -literal -offset indent\na `b`\n\n\\&.c \\ed\n.Ed",
+    "| `op` | Keys |\n|---|---|\n| `A`, `B` | `c` |": ".Bl -tag -width 13n -compact\n"
+    ".It \\%\\fBA\\fR, \\%\\fBB\\fR\n\\%\\fBc\\fR.\n.El",
+    "| A | B | C |\n|---|---|---|\n| a | | c |": ".Bl -tag -width 13n -compact\n.It a\nC: c.\n.El",
+}
+
+
+def stand_in_order(parts: list[str], text: str) -> bool:
+    """Whether a text is these parts with something between any two. (A regular expression takes for ever if it is
+    not.)"""
+    first, *middle, last = parts
+    at = len(first)
+    for part in middle:
+        at = text.find(part, at + 1) + len(part)
+        if at < len(part):
+            return False
+    return text.startswith(first) and text.endswith(last) and at < len(text) - len(last)
 
 
 class Page(unittest.TestCase):
-    def test_equal(self) -> None:
-        self.assertEqual(differences(PAGE, [SERVE, HELP]), [])
+    def test_of_program(self) -> None:
+        parts = page.of_program([SERVE, Command("help", "help", [])], "LOGOFF -\n")
+        statuses = '.Bl -tag -width "commands" -compact\n.It Cm serve\n0 served, 1 not.\n.El'
+        wanted = {"SYNOPSIS": SYNOPSIS, "serve": SAID, "OPERATOR COMMANDS": "LOGOFF -", "STATUSES": statuses}
+        self.assertEqual(parts, {**wanted, "VERSION": version()})
 
-    def test_the_manual_lacks_an_option(self) -> None:
-        more = SERVE._replace(options=[*SERVE.options, Option("--log", "", "")])
-        wanted = ["serve: the manual has no --log", "serve: the manual does not explain --log"]
-        self.assertEqual(differences(PAGE, [more]), wanted)
+    def test_prose(self) -> None:
+        for text, wanted in (
+            ("It is -1. Or \\ or .. The", "It is \\-1.\nOr \\e or .. The."),
+            (f"{'x' * 77} .y:", f"{'x' * 77}\n\\&.y:"),
+        ):
+            with self.subTest(text):
+                self.assertEqual(page.prose(text), wanted)
 
-    def test_the_help_lacks_an_option(self) -> None:
-        self.assertEqual(differences(PAGE, [without("--strict")]), ["serve: the help has no --strict"])
+    def test_blocks(self) -> None:
+        for text, wanted in BLOCKS.items():
+            with self.subTest(text):
+                self.assertEqual(page.block(text), wanted)
+        texts = [text for text in BLOCKS if text[0] != "o"]
+        self.assertEqual(page.BLOCK.findall("\n" + "\n\n".join(texts) + "\n"), texts)
 
-    def test_the_manual_lacks_a_command(self) -> None:
-        wanted = ["the synopsis has no command run", "COMMANDS has no command run"]
-        self.assertEqual(differences(PAGE, [SERVE, Command("run", "Runs", [])]), wanted)
+    def test_sections(self) -> None:
+        self.assertTrue(page.section("RULES.md#Other codes").startswith(".Bl -bullet -compact\n.It\n\\%\\fBWARN\\fR: "))
+        with self.assertRaises(ValueError):
+            page.section("RULES.md#Other")
 
-    def test_the_help_lacks_a_command(self) -> None:
-        wanted = ["the help has no command serve, the synopsis has", "the help has no command serve, COMMANDS has"]
-        self.assertEqual(differences(PAGE, [HELP]), wanted)
+    def test_parts(self) -> None:
+        self.assertEqual(page.made("a @b@ c\n@d e@ @\n", {"b": "1", "d e": "@b@"}), "a 1 c\n@b@ @\n")
+        for parts in ({}, {"b": "1", "c": "2"}):
+            with self.subTest(parts), self.assertRaises(ValueError):
+                page.made("@b@", parts)
 
-    def test_an_option_that_must_be_given(self) -> None:
-        self.assertEqual(len(differences(PAGE.replace(".Op Fl -strict", ".Fl -strict"), [SERVE])), 1)
-
-    def test_another_value(self) -> None:
-        self.assertEqual(len(differences(PAGE.replace("-port Ar number", "-port Ar port"), [SERVE])), 2)
-
-    def test_codes(self) -> None:
-        wanted = [
-            ("E03", "`BadCharacter` at", "it has a character outside of these"),
-            ("E10", "`NoConsole`", "there is none"),
-        ]
-        self.assertEqual(codes_in(PAGE), wanted)
-
-    def test_brackets_and_quotes(self) -> None:
-        shown = "gate {--port number [--strict |] --socket\n    path} [--log] says ‘HELD level ‘BY source’’ or ‘a’ ‘b’"
-        self.assertEqual(misplaced_in(shown), ["|]", "‘HELD level ‘BY source’’"])
-        self.assertEqual(misplaced_in("gate {--port number [--strict] | --socket path} says ‘a’ or ‘b’."), [])
-
-    def test_what_is_listed(self) -> None:
-        wanted = {"Connect": ["user", "group"], "Remove": ["user", "group"], "DelUser": ["id"]}
-        self.assertEqual(operations_in(PAGE), wanted)
-        self.assertEqual(notes_in(PAGE), ["N01", "N03"])
-        self.assertEqual(display_in(PAGE, "OPERATOR COMMANDS"), "COMMAND GROUP\nLOGOFF  -\n")
+    def test_the_page_is_of_its_template_and_the_documents(self) -> None:
+        """The other parts are the program's, by which tools/manual compares the whole page."""
+        template = bytes_of(page.TEMPLATE).decode()
+        filled = page.MARK.sub(lambda mark: page.section(mark[1]) if "#" in mark[1] else mark[0], template)
+        parts = page.MARK.split(filled)[::2]
+        self.assertTrue(stand_in_order(parts, bytes_of(page.PAGE).decode()), "tools/manual --write makes it")
 
     def test_examples(self) -> None:
-        self.assertEqual(examples_in(PAGE), ["gate serve --db x"])
+        self.assertEqual(page.examples_in("Serve:\n.Dl gate serve --db x\n.Pp\n"), ["gate serve --db x"])
 
 
 if __name__ == "__main__":

@@ -1,7 +1,7 @@
 """What the manual repeats of the documents and of the definitions."""
 import unittest
 
-from lib.manual.rules import commands_in, needs_in, needs_listed, notes_in, operations_in
+from lib.manual.rules import codes_in, commands_in, known_notes_in, needs_in, needs_listed
 
 NEEDS = """\
 ## Operands
@@ -41,13 +41,9 @@ class Rules(unittest.TestCase):
         specs = 'command name options = record\n    command (codes "run") run_options\n    ∷ command (codes "who") []\n'
         self.assertEqual(commands_in(specs), ["run", "who"])
 
-    def test_notes(self) -> None:
-        self.assertEqual(notes_in("| N02 | user | it |\n| N01 | a |\nN03\n| N02 | `text` |\n"), ["N02", "N01"])
-
-    def test_operations(self) -> None:
-        page = "| `op` | Further keys |\n| `Connect`, `Remove` | `user`, `group` |\n| `DelUser` | `id` |\n"
-        wanted = {"Connect": ["user", "group"], "Remove": ["user", "group"], "DelUser": ["id"]}
-        self.assertEqual(operations_in(page), wanted)
+    def test_codes(self) -> None:
+        self.assertEqual(codes_in("- N02 user: `it`: b.\nN03\n- E03 `BadCharacter` at: c\n"), ["N02", "E03"])
+        self.assertEqual(known_notes_in('codes "N01" ∷ codes "E02" ∷ codes "N03" ∷ []'), ["N01", "N03"])
 
 
 if __name__ == "__main__":

@@ -67,6 +67,11 @@ class Files(unittest.TestCase):
         known.held(self.file)
         self.assertEqual(len(opened), 2)
 
+    def test_what_an_opening_leaves_in_the_log_is_not_in_the_database_file(self) -> None:
+        self.made()
+        held = Known(lambda file: OPENED).held(self.file)
+        self.assertEqual((held.tables, held.tables_then), ({"one": ["(1,)"]}, {"one": []}))
+
     def test_moments(self) -> None:
         self.assertEqual(
             timeless({"account": ["(12, 1790000000, 'C1')"], "log": ["(1, 17)"]}),

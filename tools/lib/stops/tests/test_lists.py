@@ -16,7 +16,7 @@ POWER, _, LOG, _ = LOSSES
 ALL = range(1, len(LINES) + 1)
 MEMORY = "E90 NoMemory\n"
 STATE = Prepared("", "none", [])
-DATABASE = "E91 Store\nopcmds: database db: damaged, or its disk is full or fails\n"
+DATABASE = "E91 Store\nopcmds: database db: corrupt, or the disk is full or failing\n"
 
 
 def held(*done_ones: int) -> Held:

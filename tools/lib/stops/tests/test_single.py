@@ -18,7 +18,7 @@ POWER, TORN, LOG, DISK = LOSSES
 DONE, NO_MEMORY, FAILED = "7 DONE -\n", "7 REFUSED E90 NoMemory -\n", "7 REFUSED E91 Store -\n"
 MEMORY = "E90 NoMemory\n"
 INPUT, OUTPUT = (f"E91 Store\nopcmds: standard {way}: Input/output error\n" for way in ("input", "output"))
-DATABASE = "E91 Store\nopcmds: database db: damaged, or its disk is full or fails\n"
+DATABASE = "E91 Store\nopcmds: database db: corrupt, or the disk is full or failing\n"
 STATE = Prepared("", "none", [])
 OLD, NEW = {"account": ["(1, 5)"]}, {"account": ["(1, 5)", "(2, 6)"]}
 
@@ -142,7 +142,7 @@ class Imports(unittest.TestCase):
         self.assertEqual(self.refused.allowed(READ, (1, "", "")), {})
 
     def test_the_second_line_of_a_refusal_is_left_out(self) -> None:
-        said, note = MISSING[2], "opcmds: standard input, row 39: no group LATE\n"
+        said, note = MISSING[2], "opcmds: standard input, row 39, line 40: no group LATE\n"
         for end in ("", DATABASE):
             self.assertEqual(without_note(said + note + end), said + end)
         for length in range(len(note)):

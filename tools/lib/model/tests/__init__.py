@@ -1,0 +1,1 @@
+"""Tests of what the plain model answers: tools/selftest runs them."""

@@ -1,5 +1,5 @@
 -- What copies hold to which nothing was written.
-use Rattle.std.proofs.Common.{◌≡◌, ◌∙◌, Bool, true, false, ◌&&◌, List, ℕ, IsTrue, ap, if◌then◌else◌, refl}
+use Rattle.std.proofs.Common.{◌≡◌, ◌∙◌, Bool, true, false, ◌&&◌, IsTrue, ap, if◌then◌else◌, refl}
 use Rattle.std.proofs.lemmas.Slice.Eq.{bytes_eq-Decides}
 use Rattle.sqlite_disk.specs.declared.start.Start.{Ghosts}
 use Rattle.opc_store_file.specs.declared.copy.CopyFrom.{CopyFrom}

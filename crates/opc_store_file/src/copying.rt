@@ -6,7 +6,8 @@ ghost use Rattle.opc_store_file.specs.Site.{means_no_file};
 ghost use Rattle.opc_store_file.specs.declared.copying.NotCopied.TheVariants.{NoPath};
 
 use crate::copy::CopyFrom;
-use crate::site::{LOCK_BYTES, is_same, means_no_file, unfound};
+use crate::paths::{LOCK_BYTES, is_same};
+use crate::site::{log_of, means_no_file, unfound};
 use os::RangeLock;
 use sqlite_disk::{Files, Start};
 use std::alloc::AllocError;
@@ -77,10 +78,7 @@ fn read_both(rt: &HostRuntime, path: &str) -> Result<(Vec<u8>, Vec<u8>), NotCopi
         return Err(NotCopied::Journal);
     }
     let db = bytes_in(rt, &file)?;
-    let log = log_at(
-        rt,
-        format!(in rt.alloc(); "{}-wal", database.as_str())?.as_str(),
-    )?;
+    let log = log_at(rt, log_of(rt.alloc(), database.as_str())?.as_str())?;
     if is_unchanged(&found, &file.metadata()?) {
         Ok((db, log))
     } else {

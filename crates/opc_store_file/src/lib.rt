@@ -4,5 +4,6 @@
 
 pub mod copy;
 pub mod copying;
+pub mod paths;
 pub mod site;
 pub mod spare;

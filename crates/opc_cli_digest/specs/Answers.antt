@@ -1,11 +1,12 @@
 -- What `digest` answers, and what it prints.
 use Rattle.std.specs.Prelude.{◌≡◌, ◌⊎◌, ℕ, Bool, true, false, List, Option, codes}
 use Rattle.std.specs.Io.KnownBytes.{Appends}
-use Rattle.opc_terms.specs.declared.fault.Fault.{Fault}
+use Rattle.std.specs.IoError.{error_kind}
+use Rattle.std.specs.declared.io.Error.{Error}
 use Rattle.opc_cli_failures.specs.declared.status.Status.{Status}
 use Rattle.opc_cli_failures.specs.declared.status.Status.TheVariants.{BadInput, Done, Failed}
 use Rattle.opc_cli_failures.specs.Printing.{IsReported}
-use Rattle.opc_cli_failures.specs.Statuses.{IsFailure}
+use Rattle.opc_cli_failures.specs.Statuses.{fault_of_kind}
 use Rattle.opc_reader_commands.specs.Stretches.{folded}
 use Rattle.opc_cli_digest.specs.Passwords.{IsPassword, IsTyped, digest_line, line_of}
 
@@ -28,12 +29,15 @@ module _ {K : Type 0} (shown : K → Option (List ℕ)) (has_failed : K → Bool
   IsPrompted true quiet prompted = IsSaid quiet prompted prompt_line
   IsPrompted false quiet prompted = prompted ≡ quiet
 
-  -- An allocation, the input or the output failed; and that was printed.
-  pub record IsFailed (quiet reported : K) (status : Status) : Type 0 where
-    pub fault : Fault
-    pub failed : IsFailure fault
+  -- An error was reported by the fault of its kind.
+  pub record IsFailedBy (quiet reported : K) (status : Status) (error : Error) : Type 0 where
     pub status_is : status ≡ Failed
-    pub printed : has_failed reported ≡ false → IsReported fault (shown quiet) (shown reported)
+    pub printed : has_failed reported ≡ false
+        → IsReported (fault_of_kind (error_kind error)) (shown quiet) (shown reported)
+
+  -- An allocation, the input or the output failed; and that was reported.
+  abbrev pub IsFailed : (quiet reported : K) → Status → Type 0
+  IsFailed quiet reported status = (error : Error) × IsFailedBy quiet reported status error
 
   module _ {W : Type 0} (contents : W → Option (List ℕ)) (before written : W) (quiet reported : K) (status : Status)
     where

@@ -1,11 +1,10 @@
 //! The password on the input, answered by its digest.
-ghost use Rattle.std.specs.Prelude.{◌≡◌, ◌≤◌, IfErr, OnOk, false, length};
+ghost use Rattle.std.specs.Prelude.{◌≡◌, ◌≤◌, OnOk, false, length};
 ghost use Rattle.std.specs.Io.KnownBytes.{Appends};
-ghost use Rattle.opc_cli_failures.specs.Statuses.{IsFailure};
 ghost use Rattle.opc_cli_digest.specs.Passwords.{digest_line, most};
 ghost use Rattle.opc_cli_digest.specs.Answers.{
   IsAnswered,
-  IsFailed,
+  IsFailedBy,
   IsLineAnswered,
   IsPrompted,
   IsPromptedAnswer,
@@ -72,7 +71,7 @@ fn answer<R: Read, W: Write, K: Sink>(
 {
     match read_line(alloc, input) {
         Ok(typed) => answer_line(&typed, output, errors),
-        Err(error) => report(&Failure::at(Place::Input, error), errors),
+        Err(error) => report(Place::Input, error, errors),
     }
 }
 
@@ -86,7 +85,7 @@ fn answer_line<W: Write, K: Sink>(typed: &[u8], output: &mut W, errors: &mut K) 
     match password_in(line_of(typed)) {
         Some(password) => match print_digest(&password, output) {
             Ok(()) => Status::Done,
-            Err(failure) => report(&failure, errors),
+            Err(error) => report(Place::Output, error, errors),
         },
         None => {
             say(
@@ -98,27 +97,17 @@ fn answer_line<W: Write, K: Sink>(typed: &[u8], output: &mut W, errors: &mut K) 
     }
 }
 
-fn print_digest<W: Write>(password: &Password, output: &mut W) -> Result<(), Failure>
-    ensures text { OnOk result (Appends (W.contents output.old) (W.contents output.new) (digest_line password.now)) }
-    ensures fault { IfErr result (λ failure. IsFailure failure.fault) }
-{
-    match write_digest(password, output) {
-        Ok(()) => Ok(()),
-        Err(error) => Err(Failure::at(Place::Output, error)),
-    }
-}
-
-fn write_digest<W: Write>(password: &Password, output: &mut W) -> io::Result<()>
+fn print_digest<W: Write>(password: &Password, output: &mut W) -> io::Result<()>
     ensures { OnOk result (Appends (W.contents output.old) (W.contents output.new) (digest_line password.now)) }
 {
     output.write_all(&digest_of(password))?;
     output.write_all(b"\n")
 }
 
-fn report<K: Sink>(failure: &Failure, errors: &mut K) -> Status
-    requires { IsFailure failure.now.fault }
-    ensures failed { IsFailed K.held K.has_failed errors.old errors.new result }
+/// Reports that a read or a write failed there.
+fn report<K: Sink>(place: Place, error: io::Error, errors: &mut K) -> Status
+    ensures failed { IsFailedBy K.held K.has_failed errors.old errors.new result error }
     ensures kept { K.has_failed errors.new ≡ false → K.has_failed errors.old ≡ false }
 {
-    failure.report(&NO_PATHS, errors)
+    Failure::at(place, error).report(&NO_PATHS, errors)
 }

@@ -42,6 +42,7 @@ use Rattle.opc_machine.specs.Inputs.{input_of}
 use Rattle.opc_gate.specs.Handling.{IsHandled, IsRun}
 use Rattle.opc_gate.proofs.Running.{run_more}
 use Rattle.opc_http_connections.specs.Links.{Link}
+use Rattle.opc_http_connections.specs.declared.timed.Timed.{Timed}
 use Rattle.opc_http_requests.specs.declared.origins.Origins.{Origins}
 use Rattle.opc_http.specs.Exchange.{IsFaulty, IsServed, IsUnserved, Replies, Reply}
 use Rattle.opc_http.specs.declared.exchanging.LinkFault.{LinkFault}
@@ -51,7 +52,18 @@ use Rattle.opc_http_serve.specs.declared.clock.TheConstants.{LAST_MOMENT}
 use Rattle.opc_http_serve.specs.Handled.{AreHandled, Handled, IsConversation, IsExchange, IsReplied, IsRunOf, RepliesOnce, handled_with, none_handled}
 use Rattle.opc_http_serve.specs.Arriving.{Arrives, IsLost}
 use Rattle.opc_http_serve.specs.Moments.{is_before_1970, moment_of}
-use Rattle.opc_http_serve.specs.Serving.{AreServed, IsClient, IsCutShort, IsTurn, ServesAll, ServesClients}
+use Rattle.opc_http_serve.specs.Serving.{
+  AreServed,
+  Exchanged,
+  ExchangedOver,
+  IsClient,
+  IsCutShort,
+  IsEnded,
+  IsTurn,
+  ServesAll,
+  ServesClients,
+  by_bytes,
+}
 use Rattle.opc_http_serve.specs.declared.arrival.ServeFault.{ServeFault}
 use Rattle.opc_http_serve.specs.declared.arrival.ServeFault.TheVariants as why
 
@@ -75,17 +87,26 @@ within : (reading : Result Duration Error) (moment : ℕ) → moment_of reading 
 within reading moment e = IfOk-at_ok (λ m. m ≤ LAST_MOMENT) e (low reading)
 
 -- one more connection came
-module _ {C K G D : Type 0} (link : Link C K) (origins : Origins)
-    (made : G → Option (List ℕ) → ℕ → Option (List ℕ) → Option (List ℕ) → Result Served LinkFault → G → Type 0)
+module _ {C K G D : Type 0} (link : Link C K) (shuts : C → Bool → Type 0) (origins : Origins) (made : ExchangedOver G)
     (accepts : D → Result (Option (C × C)) Error → D → Type 0) (clock_says : D → Result Duration Error → D → Type 0) (timer : K)
     (timeout : Option Duration) (first : D) (old : G) where
   pub one_served : (n : ℕ) (met last : D) (was new : G)
-      → AreServed link origins made accepts clock_says timer timeout first old n met was
-      → IsTurn link origins made accepts clock_says timer timeout met was last new
-      → AreServed link origins made accepts clock_says timer timeout first old (n + 1) last new
+      → AreServed link shuts origins made accepts clock_says timer timeout first old n met was
+      → IsTurn link shuts origins made accepts clock_says timer timeout met was last new
+      → AreServed link shuts origins made accepts clock_says timer timeout first old (n + 1) last new
   one_served n met last was new are turn =
-      subst (λ m. AreServed link origins made accepts clock_says timer timeout first old m last new) (sym (next n)) (met, was, are, turn)
+      subst (λ m. AreServed link shuts origins made accepts clock_says timer timeout first old m last new) (sym (next n)) (met, was, are, turn)
 
+-- A connection was drained, whatever is known of its end.
+ended_anyhow : {C K A : Type 0} (link : Link C K) (shuts : C → Bool → Type 0) (ended : Result A LinkFault) (last gone : Timed C K)
+    → IsEnded link shuts ended last gone → IsEnded link (λ _ _. ⊤) ended last gone
+ended_anyhow link shuts (Ok served) last gone (inl (unable, same)) = inl (tt, same)
+ended_anyhow link shuts (Ok served) last gone (inr (able, drained)) = inr (tt, drained)
+ended_anyhow link shuts (Err f) last gone same = same
+
+module _ {C K G D : Type 0} (link : Link C K) (shuts : C → Bool → Type 0) (origins : Origins) (made : Exchanged G)
+    (accepts : D → Result (Option (C × C)) Error → D → Type 0) (clock_says : D → Result Duration Error → D → Type 0) (timer : K)
+    (timeout : Option Duration) (first : D) (old : G) where
   -- wherever they came from
   module _ (comes : Result (Option (C × C)) Error → Type 0)
       (seen : (a : D) (handles : Result (Option (C × C)) Error) (b : D) → accepts a handles b → comes handles) where
@@ -93,8 +114,8 @@ module _ {C K G D : Type 0} (link : Link C K) (origins : Origins)
     lost met last (inl none) = inl (seen met (Ok None) last none)
     lost met last (inr (error, failed, passes)) = inr (error, seen met (Err error) last failed, passes)
 
-    turn_anywhere : (met last : D) (was new : G) → IsTurn link origins made accepts clock_says timer timeout met was last new
-        → IsTurn link origins made {D = ⊤} (λ _ handles _. comes handles) (λ _ _ _. ⊤) timer timeout tt was tt new
+    turn_anywhere : (met last : D) (was new : G) → IsTurn link shuts origins (by_bytes made) accepts clock_says timer timeout met was last new
+        → IsTurn link (λ _ _. ⊤) origins (by_bytes made) {D = ⊤} (λ _ handles _. comes handles) (λ _ _ _. ⊤) timer timeout tt was tt new
     turn_anywhere met last was new (inl client) = inl (record {
       came = client.came;
       gone = client.gone;
@@ -109,11 +130,18 @@ module _ {C K G D : Type 0} (link : Link C K) (origins : Origins)
         reader_fine = client.arrival.reader_fine;
         writer_fine = client.arrival.writer_fine;
       };
-      served = client.served;
+      served = record {
+        ended = client.served.ended;
+        made = client.served.made;
+        last = client.served.last;
+        read = client.served.read;
+        few = client.served.few;
+        drained = ended_anyhow link shuts client.served.ended _ _ client.served.drained;
+      };
     })
     turn_anywhere met last was new (inr (none, idle)) = inr (lost met last none, idle)
 
-    anyhow : (n : ℕ) (last : D) (new : G) → AreServed link origins made accepts clock_says timer timeout first old n last new
+    anyhow : (n : ℕ) (last : D) (new : G) → AreServed link shuts origins (by_bytes made) accepts clock_says timer timeout first old n last new
         → ServesAll link origins made comes timer timeout old n new
     anyhow zero last new are = (refl, are.1)
     anyhow (suc n) last new (met, was, are, turn) = (tt, was, anyhow n met was are, turn_anywhere met last was new turn)
@@ -136,8 +164,8 @@ module _ {C K G D : Type 0} (link : Link C K) (origins : Origins)
     })
 
     pub from_anywhere : {A : Type 0} (count : ℕ) (last : D) (new : G) (end : Result A ServeFault)
-        → OnOk end (AreServed link origins made accepts clock_says timer timeout first old count last new)
-        → IfErr end (λ f. IsCutShort link origins made accepts clock_says timer timeout first old count f last new)
+        → OnOk end (AreServed link shuts origins (by_bytes made) accepts clock_says timer timeout first old count last new)
+        → IfErr end (λ f. IsCutShort link shuts origins (by_bytes made) accepts clock_says timer timeout first old count f last new)
         → ServesClients link origins made comes timer timeout old count end new
     from_anywhere count last new (Ok a) are cut = anyhow count last new are
     from_anywhere count last new (Err f) are cut = record {
@@ -233,12 +261,12 @@ module _ (origins : Origins) {T : Type 0} (m : Meaning T) where
       exchanged (Err f) one = broken f one.fault
 
   -- what clients that came and were served make of the tables
-  module _ {C K D : Type 0} (link : Link C K) (accepts : D → Result (Option (C × C)) Error → D → Type 0)
+  module _ {C K D : Type 0} (link : Link C K) (shuts : C → Bool → Type 0) (accepts : D → Result (Option (C × C)) Error → D → Type 0)
       (clock_says : D → Result Duration Error → D → Type 0) (timer : K) (timeout : Option Duration) where
     client : (met last : D) (old mid new : T) (handled : Handled)
-        → IsClient link origins (IsExchange origins m) accepts clock_says timer timeout met mid last new
+        → IsClient link shuts origins (by_bytes (IsExchange origins m)) accepts clock_says timer timeout met mid last new
         → IsRunOf m old mid handled
-        → (more : Handled) × IsClient link origins (IsConversation origins) accepts clock_says timer timeout met handled last more
+        → (more : Handled) × IsClient link shuts origins (by_bytes (IsConversation origins)) accepts clock_says timer timeout met handled last more
         × IsRunOf m old new more × (m.is_sure new → m.is_sure mid)
     client met last old mid new handled one run =
         let served = one.served in
@@ -254,6 +282,7 @@ module _ (origins : Origins) {T : Type 0} (m : Meaning T) where
               made = r.1;
               last = served.last;
               read = served.read;
+              few = served.few;
               drained = served.drained;
             };
           },
@@ -262,9 +291,9 @@ module _ (origins : Origins) {T : Type 0} (m : Meaning T) where
         )
 
     turn : (met last : D) (old mid new : T) (handled : Handled)
-        → IsTurn link origins (IsExchange origins m) accepts clock_says timer timeout met mid last new
+        → IsTurn link shuts origins (by_bytes (IsExchange origins m)) accepts clock_says timer timeout met mid last new
         → IsRunOf m old mid handled
-        → (more : Handled) × IsTurn link origins (IsConversation origins) accepts clock_says timer timeout met handled last more
+        → (more : Handled) × IsTurn link shuts origins (by_bytes (IsConversation origins)) accepts clock_says timer timeout met handled last more
         × IsRunOf m old new more × (m.is_sure new → m.is_sure mid)
     turn met last old mid new handled (inl one) run =
         let r = client met last old mid new handled one run in
@@ -274,8 +303,8 @@ module _ (origins : Origins) {T : Type 0} (m : Meaning T) where
 
     module _ (first : D) (old : T) where
       handled_for : (n : ℕ) (last : D) (new : T)
-          → AreServed link origins (IsExchange origins m) accepts clock_says timer timeout first old n last new
-          → (handled : Handled) × AreServed link origins (IsConversation origins) accepts clock_says timer timeout first none_handled n last handled
+          → AreServed link shuts origins (by_bytes (IsExchange origins m)) accepts clock_says timer timeout first old n last new
+          → (handled : Handled) × AreServed link shuts origins (by_bytes (IsConversation origins)) accepts clock_says timer timeout first none_handled n last handled
           × IsRunOf m old new handled × (m.is_sure new → m.is_sure old)
       handled_for zero last new are =
           (none_handled, (are.0, refl), none_more m old old new none_handled are.1 (begins m old), λ sure. subst m.is_sure are.1 sure)
@@ -288,14 +317,14 @@ module _ (origins : Origins) {T : Type 0} (m : Meaning T) where
           (seen : (a : D) (handles : Result (Option (C × C)) Error) (b : D) → accepts a handles b → comes handles)
           {A : Type 0} (count : ℕ) (last : D) (new : T) where
         pub all_handled : (end : Result A ServeFault)
-            → OnOk end (AreServed link origins (IsExchange origins m) accepts clock_says timer timeout first old count last new)
-            → IfErr end (λ f. IsCutShort link origins (IsExchange origins m) accepts clock_says timer timeout first old count f last new)
+            → OnOk end (AreServed link shuts origins (by_bytes (IsExchange origins m)) accepts clock_says timer timeout first old count last new)
+            → IfErr end (λ f. IsCutShort link shuts origins (by_bytes (IsExchange origins m)) accepts clock_says timer timeout first old count f last new)
             → AreHandled origins m link comes timeout old new count end
         all_handled (Ok a) are cut =
             let h = handled_for count last new are in record {
               handled = h.0;
               timer = timer;
-              served = anyhow link origins (IsConversation origins) accepts clock_says timer timeout first none_handled comes seen count last h.0 h.1;
+              served = anyhow link shuts origins (IsConversation origins) accepts clock_says timer timeout first none_handled comes seen count last h.0 h.1;
               run = h.2;
             }
         all_handled (Err f) are cut =
@@ -306,17 +335,17 @@ module _ (origins : Origins) {T : Type 0} (m : Meaning T) where
                 done = cut.done;
                 fewer = cut.fewer;
                 met = tt;
-                served = anyhow link origins (IsConversation origins) accepts clock_says timer timeout first none_handled comes seen cut.done cut.met h.0 h.1;
+                served = anyhow link shuts origins (IsConversation origins) accepts clock_says timer timeout first none_handled comes seen cut.done cut.met h.0 h.1;
                 failed =
-                    none_came link origins (IsConversation origins) accepts clock_says timer timeout first none_handled comes seen f cut.met
+                    none_came link shuts origins (IsConversation origins) accepts clock_says timer timeout first none_handled comes seen f cut.met
                     last cut.failed;
               };
               run = h.2;
             }
 
       pub sure : {A : Type 0} (count : ℕ) (last : D) (new : T) (end : Result A ServeFault)
-          → OnOk end (AreServed link origins (IsExchange origins m) accepts clock_says timer timeout first old count last new)
-          → IfErr end (λ f. IsCutShort link origins (IsExchange origins m) accepts clock_says timer timeout first old count f last new)
+          → OnOk end (AreServed link shuts origins (by_bytes (IsExchange origins m)) accepts clock_says timer timeout first old count last new)
+          → IfErr end (λ f. IsCutShort link shuts origins (by_bytes (IsExchange origins m)) accepts clock_says timer timeout first old count f last new)
           → m.is_sure new → m.is_sure old
       sure count last new (Ok a) are cut = (handled_for count last new are).3
       sure count last new (Err f) are cut = (handled_for cut.done cut.met new cut.served).3

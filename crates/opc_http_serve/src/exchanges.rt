@@ -19,11 +19,11 @@ pub trait Exchanges {
     ghost use Rattle.opc_http.specs.declared.exchanging.LinkFault.{LinkFault};
     ghost use Rattle.opc_http.specs.declared.exchanging.Served.{Served};
 
-    /// An exchange was made, with requests accepted from there: with what the reader had left, at this time, with what
-    /// the writer held before it and after it, and how it ended. Only such an exchange can show what a function over
-    /// any of these promises by it.
-    ghost exchanged: { Origins → Self → Option (List ℕ) → ℕ → Option (List ℕ) → Option (List ℕ)
-        → Result Served LinkFault → Self → Type 0 };
+    /// An exchange was made, with requests accepted from there: with what the reader had left, at this time, over this
+    /// writer, of which it is stated what it holds, as it was before and after, and how it ended. Only such an exchange
+    /// can show what a function over any of these promises by it.
+    ghost exchanged: { Origins → Self → Option (List ℕ) → ℕ → (W : Type 0) → (W → Option (List ℕ))
+        → (before after : W) → Result Served LinkFault → Self → Type 0 };
 
     /// One exchange, over a reader and a writer of which no call has failed.
     fn serve_one<S: Source, K: Sink>(
@@ -36,14 +36,14 @@ pub trait Exchanges {
     ) -> Result<Served, LinkFault>
         requires reader { S.has_failed source.old ≡ false }
         requires writer { K.has_failed sink.old ≡ false }
-        ensures exchanged { exchanged routes.now self.old (S.left source.old) moment (K.held sink.old)
-            (K.held sink.new) result self.new }
+        ensures exchanged { exchanged routes.now self.old (S.left source.old) moment _ K.held sink.old sink.new result
+            self.new }
         ensures reads { ReadsOnly S.left S.gives (MayRead routes.now) source.old [] source.new };
 }
 
 impl<T: Tables> Exchanges for Gate<T> {
-    ghost exchanged = { λ origins old left moment before after result new. IsExchange origins T.meaning old left moment
-        before after result new };
+    ghost exchanged = { λ origins old left moment _ held before after result new. IsExchange origins T.meaning old left
+        moment (held before) (held after) result new };
 
     fn serve_one<S: Source, K: Sink>(
         &mut self,

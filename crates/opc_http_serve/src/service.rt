@@ -51,8 +51,8 @@ fn write_entry<K: Sink>(alloc: Global, log: &mut Option<K>, entry: &Option<LogEn
 }
 
 impl<T: Tables, L: Sink> Exchanges for Service<T, L> {
-    ghost exchanged = { λ origins old left moment before after result new. IsServiceExchange L.held L.has_failed origins
-        T.meaning old left moment before after result new };
+    ghost exchanged = { λ origins old left moment _ held before after result new. IsServiceExchange L.held L.has_failed
+        origins T.meaning old left moment (held before) (held after) result new };
 
     fn serve_one<S: Source, K: Sink>(
         &mut self,

@@ -32,7 +32,7 @@ fn serve_client<C: Connection, K: Timer, X: Exchanges>(
 )
     requires reader { client.old.reader.failed ≡ false }
     requires writer { client.old.writer.failed ≡ false }
-    ensures { IsClientServed (link_of C.limits K.shows C.reads C.remaining C.contents) routes.now
+    ensures { IsClientServed (link_of C.limits K.shows C.reads C.remaining C.contents) C.shuts routes.now
         (X.exchanged routes.now) client.old client.new gate.old gate.new }
 {
     let moment = client.moment;
@@ -58,7 +58,7 @@ fn serve_next<A: Arrivals, K: Timer, X: Exchanges>(
     gate: &mut X,
 ) -> Result<(), ServeFault>
     ensures turn { OnOk result (IsTurn (link_of A.Connection.limits K.shows A.Connection.reads A.Connection.remaining
-        A.Connection.contents) routes.now (X.exchanged routes.now) A.accepts A.clock_says timer.now timeout
+        A.Connection.contents) A.Connection.shuts routes.now (X.exchanged routes.now) A.accepts A.clock_says timer.now timeout
         arrivals.old gate.old arrivals.new gate.new) }
     ensures none { IfErr result (λ fault. Arrives A.accepts A.clock_says K.shows timer.now timeout arrivals.old
         (Err fault) arrivals.new) }
@@ -82,10 +82,10 @@ pub fn serve<A: Arrivals, K: Timer, X: Exchanges>(
     gate: &mut X,
 ) -> Result<(), ServeFault>
     ensures done { OnOk result (AreServed (link_of A.Connection.limits K.shows A.Connection.reads A.Connection.remaining
-        A.Connection.contents) routes.now (X.exchanged routes.now) A.accepts A.clock_says timer.now timeout
+        A.Connection.contents) A.Connection.shuts routes.now (X.exchanged routes.now) A.accepts A.clock_says timer.now timeout
         arrivals.old gate.old count arrivals.new gate.new) }
     ensures ended { IfErr result (λ fault. IsCutShort (link_of A.Connection.limits K.shows A.Connection.reads
-        A.Connection.remaining A.Connection.contents) routes.now (X.exchanged routes.now) A.accepts A.clock_says
+        A.Connection.remaining A.Connection.contents) A.Connection.shuts routes.now (X.exchanged routes.now) A.accepts A.clock_says
         timer.now timeout arrivals.old gate.old count fault arrivals.new gate.new) }
 {
     for _connection in 0..count {

@@ -9,17 +9,17 @@ use std::test::Fail;
 
 /// A new folder, and in it the paths of a database and of its log.
 #[derive(Drop)]
-struct Room {
+struct DatabaseFiles {
     folder: String,
     database: String,
     log: String,
 }
 
-fn new_room<H: AllocGlobal + Clock + Files>(rt: &H, name: &str) -> Result<Room, Fail> {
+fn new_files<H: AllocGlobal + Clock + Files>(rt: &H, name: &str) -> Result<DatabaseFiles, Fail> {
     let now = rt.monotonic()?.as_nanos();
     let folder = format!(in rt.alloc(); "/tmp/opcmds-{name}-{now}")?;
     fs::create_dir(rt, folder.as_str())?;
-    Ok(Room {
+    Ok(DatabaseFiles {
         database: format!(in rt.alloc(); "{}/db", folder.as_str())?,
         log: format!(in rt.alloc(); "{}/db-wal", folder.as_str())?,
         folder,

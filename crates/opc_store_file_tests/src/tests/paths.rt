@@ -1,5 +1,5 @@
 //! What is at a path, and which file is made there or locked.
-use super::new_room;
+use super::new_files;
 use opc_store_file::paths::DatabasePaths;
 use opc_store_file::site::{IfMissing, prepare};
 use os::RangeLock;
@@ -12,8 +12,8 @@ use std::test::Fail;
 
 #[test]
 fn a_new_file_is_its_owners_alone(rt: HostRuntime) -> Result<(), Fail> {
-    let room = new_room(&rt, "new")?;
-    let path = room.database.as_str();
+    let files = new_files(&rt, "new")?;
+    let path = files.database.as_str();
     assert!(rt; !rt.is_there(path));
     assert!(rt; prepare(&rt, path, IfMissing::Refuse).is_err());
     assert!(rt; !rt.is_there(path));
@@ -21,28 +21,28 @@ fn a_new_file_is_its_owners_alone(rt: HostRuntime) -> Result<(), Fail> {
     let found = fs::metadata(&rt, path)?;
     assert_eq!(rt; found.permissions().mode() & 0o777, 0o600);
     assert_eq!(rt; found.len(), 0);
-    fs::remove_dir_all(&rt, room.folder.as_str())?;
+    fs::remove_dir_all(&rt, files.folder.as_str())?;
     Ok(())
 }
 
 #[test]
 fn a_file_that_is_there_is_not_made(rt: HostRuntime) -> Result<(), Fail> {
-    let room = new_room(&rt, "there")?;
-    let path = room.database.as_str();
+    let files = new_files(&rt, "there")?;
+    let path = files.database.as_str();
     fs::write(&rt, path, b"precious")?;
     match rt.make_empty(path, 0o600) {
         Ok(()) => return Err(Fail::new("a file took the place of another one")),
         Err(error) => assert_eq!(rt; error.kind(), ErrorKind::AlreadyExists),
     }
     assert_eq!(rt; rt.size(path)?, 8);
-    fs::remove_dir_all(&rt, room.folder.as_str())?;
+    fs::remove_dir_all(&rt, files.folder.as_str())?;
     Ok(())
 }
 
 #[test]
 fn a_link_leads_to_its_file(rt: HostRuntime) -> Result<(), Fail> {
-    let room = new_room(&rt, "link")?;
-    let (file, link) = (room.database.as_str(), room.log.as_str());
+    let files = new_files(&rt, "link")?;
+    let (file, link) = (files.database.as_str(), files.log.as_str());
     symlink(&rt, file, link)?;
     // It is there, and leads to nothing.
     assert!(rt; rt.is_there(link));
@@ -53,17 +53,17 @@ fn a_link_leads_to_its_file(rt: HostRuntime) -> Result<(), Fail> {
     assert_eq!(rt; rt.size(link)?, 4);
     assert!(rt; rt.measure(file) == Some(4));
     assert!(rt; rt.measure(link).is_none());
-    assert!(rt; rt.measure(room.folder.as_str()).is_none());
+    assert!(rt; rt.measure(files.folder.as_str()).is_none());
     assert!(rt; rt.lock(link).is_none());
-    assert!(rt; rt.lock(room.folder.as_str()).is_none());
-    fs::remove_dir_all(&rt, room.folder.as_str())?;
+    assert!(rt; rt.lock(files.folder.as_str()).is_none());
+    fs::remove_dir_all(&rt, files.folder.as_str())?;
     Ok(())
 }
 
 #[test]
 fn a_locked_file_is_locked_by_nobody_else(rt: HostRuntime) -> Result<(), Fail> {
-    let room = new_room(&rt, "lock")?;
-    let path = room.database.as_str();
+    let files = new_files(&rt, "lock")?;
+    let path = files.database.as_str();
     assert!(rt; rt.lock(path).is_none());
     fs::write(&rt, path, b"rows")?;
     let other = File::open(&rt, path)?;
@@ -79,6 +79,6 @@ fn a_locked_file_is_locked_by_nobody_else(rt: HostRuntime) -> Result<(), Fail> {
     let tried = os::try_lock_range(other.as_raw_fd(), RangeLock::Shared, 1 << 30, 512);
     assert_eq!(rt; tried, 0);
     assert!(rt; rt.lock(path).is_none());
-    fs::remove_dir_all(&rt, room.folder.as_str())?;
+    fs::remove_dir_all(&rt, files.folder.as_str())?;
     Ok(())
 }

@@ -55,7 +55,9 @@ pub trait Ports {
     fn permit(&self, path: &str, mode: u32) -> io::Result<()>
         ensures { OnOk result (permits self.now path.now mode) };
 
+    /// Lets a socket listen, whose file has its permissions.
     fn listen(&self, bound: Self::Bound) -> io::Result<Self::Socket>
+        requires { (path : List ℕ) × (mode : ℕ) × names self.now path bound × permits self.now path mode }
         ensures { IfOk result (λ socket. listens self.now bound socket) };
 
     /// Removes the file of a socket at which nobody listens, if that is what is at this path; returns whether it did.

@@ -14,6 +14,7 @@ use std::net::{Net, OpenListener, SocketAddr};
 pub trait Ports {
     ghost use Rattle.std.specs.Prelude.{ℕ, List};
     ghost use Rattle.std.specs.declared.net.socket_addr.SocketAddr.{SocketAddr};
+    ghost use Rattle.opc_cli_program.specs.Listening.{IsLocalhost};
 
     /// Listens at a port.
     type Listener: ClientListener + Drop;
@@ -42,7 +43,9 @@ pub trait Ports {
     /// The file at this path was removed, if it was the one that was made for this socket, and nothing else was.
     ghost removes: { Self → List ℕ → Self.Socket → Type 0 };
 
+    /// Listens at an address of this host alone.
     fn bind(&self, address: SocketAddr) -> io::Result<Self::Listener>
+        requires { IsLocalhost address }
         ensures { IfOk result (λ listener. binds self.now address listener) };
 
     fn address_of(&self, listener: &Self::Listener) -> io::Result<SocketAddr>

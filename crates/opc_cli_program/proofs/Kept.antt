@@ -1,5 +1,6 @@
 -- What was done to tables, and then a load.
-use Rattle.std.proofs.Common.{◌≡◌, ◌≢◌, ◌⊎◌, ◌∙◌, inl, inr, ℕ, List, Err, Ok, ap, sym}
+use Rattle.std.proofs.Common.{◌≡◌, ◌≢◌, ◌⊎◌, ◌∙◌, inl, inr, ℕ, List, Result, Err, Ok, ap, sym}
+use Rattle.std.specs.Prelude.{IfErr}
 use Rattle.opc_terms.specs.declared.fault.Fault.{Fault}
 use Rattle.opc_terms.specs.declared.fault.Fault.TheVariants.{NoMemory, Store}
 use Rattle.opc_policy_members.specs.declared.row.Row.{Row}
@@ -12,7 +13,9 @@ use Rattle.opc_machine.specs.Inputs.{Input}
 use Rattle.opc_gate.specs.Handling.{IsAcknowledged, IsHandled, LeavesAsBefore}
 use Rattle.opc_gate.specs.RowEdits.{HaveNothingNew}
 use Rattle.opc_cli_failures.specs.declared.failure.Failure.{Failure}
-use Rattle.opc_cli_program.specs.Imports.{IsFirstPolicy}
+use Rattle.opc_cli_failures.specs.declared.status.Status.{Status}
+use Rattle.opc_cli_program.specs.Imports.{IsEnded, IsFirstPolicy}
+use Rattle.opc_cli_program.specs.Refusals.{TellsWho}
 
 module _ {T : Type 0} (m : Meaning T) (old met new : T) (kept : IsKept m met new) where
   acknowledged : (s next : State) → IsAcknowledged m old met s next → IsAcknowledged m old new s next
@@ -53,3 +56,9 @@ module _ {T : Type 0} (m : Meaning T) (old met new : T) (kept : IsKept m met new
 -- nothing was done
 pub untouched : {T : Type 0} (m : Meaning T) (t : T) → IsKept m t t
 untouched m t = record { sure = λ is. is; same = λ is s h. h; crash = λ s h. h }
+
+-- what fails is not refused
+pub not_special_end : (s : State) (r : Input) (end : Result Status Failure) → IsEnded end → IfErr end (TellsWho s r)
+not_special_end s r (Ok status) ended = tt
+not_special_end s r (Err failure) (inl memory) = λ special. absurd (cc)
+not_special_end s r (Err failure) (inr store) = λ special. absurd (cc)

@@ -44,6 +44,7 @@ use Rattle.opc_cli_failures.specs.declared.failure.Failure.{Failure}
 use Rattle.opc_cli_failures.specs.Statuses.{IsFailure}
 use Rattle.opc_cli_tasks.specs.declared.work.Import.{Import}
 use Rattle.opc_cli_questions.specs.PolicyFiles.{AreRead, IsUnread}
+use Rattle.opc_cli_program.specs.Refusals.{TellsWho}
 use Rattle.opc_cli_script.specs.Running.{AppendsPrefix}
 use Rattle.opc_cli_script.specs.Transcripts.{ended}
 
@@ -106,12 +107,15 @@ module _ {T : Type 0} (m : Meaning T) (old new : T)
       pub same : new ≡ old
       pub silent : written ≡ before
 
-    -- One request was handled, in one step of the access machine, and its answer printed.
+    -- One request was handled, in one step of the access machine, and its answer printed. A refusal for want of SPECIAL
+    -- names who acts there.
     pub record IsOneStep (moment : ℕ) (r : Input) : Type 0 where
       pub answer : Answer
       pub handled : m.is_sure new → (s : State) → m.represents old s
           → IsHandled m old new s moment r answer
       pub reported : IsReported held has_failed answer before written end
+      pub who : m.is_sure new → (s : State) → m.represents old s
+          → (next : State) × m.represents new next × IfErr end (TellsWho next r)
 
     -- The rows are a batch with this number at the console that is named; if none is named, they are a first policy,
     -- and nothing is printed.

@@ -1,9 +1,11 @@
 //! Why rows are refused, as the tables show it.
-ghost use Rattle.std.specs.Prelude.{◌≡◌};
+ghost use Rattle.std.specs.Prelude.{◌≡◌, Some};
 ghost use Rattle.opc_state.specs.Changes.{IsKept};
 ghost use Rattle.opc_state.specs.PolicyFile.{rows_of};
 ghost use Rattle.opc_state.specs.State.{State};
+ghost use Rattle.opc_machine.specs.Inputs.{console_of, input_of};
 ghost use Rattle.opc_cli_questions.specs.Refusals.{TellsOf};
+ghost use Rattle.opc_cli_program.specs.Refusals.{TellsWho, reason_of, who_is_there};
 
 use opc_cli_failures::failure::{Failure, Place};
 use opc_cli_failures::reason::Reason;
@@ -87,15 +89,42 @@ pub(crate) fn not_taken<T: Tables>(
     }
 }
 
-/// Why nobody with SPECIAL is found at a console: nobody acts there, or this user.
-fn not_special(fault: Fault, console: &ConsoleName, user: Option<UserId>) -> Failure
-    ensures { result.fault ≡ fault }
+/// Why nobody with SPECIAL is found: this user acts, or nobody.
+fn reason_of(user: Option<UserId>) -> Reason
+    ensures { result ≡ reason_of user }
 {
-    let reason = match user {
+    match user {
         Some(user) => Reason::NotSpecial(Subject::of(&user)),
         None => Reason::NobodyOn,
-    };
-    Failure::of(fault, Place::Console(Subject::of(console)), reason)
+    }
+}
+
+/// The fault, with the console at which nobody with SPECIAL is found, and why.
+fn not_special(fault: Fault, console: &ConsoleName, user: Option<UserId>) -> Failure
+    ensures fault { result.fault ≡ fault }
+    ensures cause { result.cause ≡ Some (who_is_there console.now user) }
+{
+    Failure::of(fault, Place::Console(Subject::of(console)), reason_of(user))
+}
+
+/// The fault of an import at a console for which nobody with SPECIAL acts, and who acts for it, if that can be loaded.
+#[tactic(auto, using(crate::proofs::Kept::untouched))]
+fn refused_at<T: Tables>(
+    alloc: Global,
+    gate: &mut Gate<T>,
+    console: &ConsoleName,
+    request: &Request,
+) -> Failure
+    ensures fault { result.fault ≡ Fault.NotSpecial }
+    ensures who { console_of (input_of request.now) ≡ Some console.now
+        → T.meaning.is_sure gate.new → (s : State) → T.meaning.represents gate.old s
+        → TellsWho s (input_of request.now) result }
+    ensures kept { IsKept T.meaning gate.old gate.new }
+{
+    match gate.acting_user(alloc, request) {
+        Ok(user) => not_special(Fault::NotSpecial, console, user),
+        Err(_) => Failure::of_gate(Fault::NotSpecial),
+    }
 }
 
 /// The fault of an import that is refused at a console, and its cause. The rows come from this place.
@@ -109,26 +138,22 @@ pub(crate) fn not_imported<T: Tables>(
     fault: Fault,
 ) -> Failure
     ensures fault { result.fault ≡ fault }
+    ensures who { T.meaning.is_sure gate.new → (s : State) → T.meaning.represents gate.old s
+        → TellsWho s (input_of request.now) result }
     ensures kept { IsKept T.meaning gate.old gate.new }
 {
-    match (fault, request) {
-        (Fault::NotSpecial, Request::Import { console, .. }) => {
-            match gate.acting_user(alloc, request) {
-                Ok(user) => not_special(fault, console, user),
-                Err(_) => Failure::from(fault),
-            }
-        }
-        (Fault::LogonRequired, Request::Import { console, .. }) => {
-            not_special(fault, console, None)
-        }
-        (Fault::NoConsole, Request::Import { console, .. }) => {
-            Failure::of(
-                fault,
-                Place::Console(Subject::of(console)),
-                Reason::NoSuchConsole,
-            )
-        }
-        (Fault::Exists(_) | Fault::Missing(_), Request::Import { rows, .. }) => {
+    let Request::Import { console, rows, .. } = request else {
+        return Failure::of_gate(fault);
+    };
+    match fault {
+        Fault::NotSpecial => refused_at(alloc, gate, console, request),
+        Fault::LogonRequired => not_special(fault, console, None),
+        Fault::NoConsole => Failure::of(
+            fault,
+            Place::Console(Subject::of(console)),
+            Reason::NoSuchConsole,
+        ),
+        Fault::Exists(_) | Fault::Missing(_) => {
             refused_over(alloc, gate, place, text, rows.as_slice(), fault)
         }
         // The code and the text of any other fault say enough.

@@ -9,3 +9,4 @@ mod Shown
 mod Whole
 mod Digits
 mod Entering
+mod Exported

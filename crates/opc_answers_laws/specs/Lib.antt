@@ -5,3 +5,4 @@ pub mod ReachLaws
 pub mod AccountLaws
 pub mod DigestLaws
 pub mod EnteringLaws
+pub mod ExportLaws

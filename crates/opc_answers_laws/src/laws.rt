@@ -15,6 +15,7 @@ ghost use Rattle.opc_answers_laws.specs.AccountLaws.{
   StoredRowsAreShown,
 };
 ghost use Rattle.opc_answers_laws.specs.DigestLaws.{DigestsLogOn};
+ghost use Rattle.opc_answers_laws.specs.ExportLaws.{ExportsGoByKind};
 ghost use Rattle.opc_answers_laws.specs.EnteringLaws.{
   EntersAfterALogon,
   EntersWithoutADigest,
@@ -82,6 +83,12 @@ pub fn loaded_rows()
 /// same password.
 pub fn digests_log_on()
     ensures { DigestsLogOn }
+{}
+
+/// An export has its rows kind by kind: the classes, CONSOLE first, then the groups, the users, the connects, the
+/// consoles, the profiles and the permits.
+pub fn exports_go_by_kind()
+    ensures { ExportsGoByKind }
 {}
 
 /// What `who` says of a user and a command at a console is what the machine does, begun from the same rows: ALLOWED,

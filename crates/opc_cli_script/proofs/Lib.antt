@@ -9,6 +9,8 @@ pub mod Moments
 pub mod Shown
 pub mod Typing
 pub mod Running
+mod Listening
+mod Steps
 pub mod Turning
 pub mod Taking
 pub mod Viewing

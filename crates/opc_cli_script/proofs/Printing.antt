@@ -28,10 +28,11 @@ use Rattle.std.proofs.lemmas.List.{append_assoc, append-nil}
 use Rattle.opc_state.specs.Meaning.{Meaning}
 use Rattle.opc_machine.specs.declared.request.Request.{Request}
 use Rattle.opc_machine.specs.declared.request.Answer.{Answer}
-use Rattle.opc_gate.specs.Listening.{AreHeard, IsEndedRun, IsHeardRun}
+use Rattle.opc_cli_script.specs.Listening.{AreHeard}
 use Rattle.opc_cli_failures.specs.declared.status.Status.{Status}
 use Rattle.opc_cli_failures.specs.declared.status.Status.TheVariants.{Done}
 use Rattle.opc_cli_script.specs.declared.script.ScriptFault.{ScriptFault}
+use Rattle.opc_cli_script.specs.Handlers.{AreSteps, IsEndedBy, IsHeardBy}
 use Rattle.opc_cli_script.specs.Refusals.{is_cut_by_output, is_output}
 use Rattle.opc_cli_script.specs.Running.{IsCut, IsCutOff, IsWhole}
 use Rattle.opc_cli_script.specs.Statuses.{status_of}
@@ -78,49 +79,52 @@ module _ {L N : Type 0} (heard : L → ℕ → Answer → L → Type 0) (same : 
   CutsOff missed = (l : L) (moment : ℕ) (answer : Answer) (n : L) (fault : ScriptFault) → missed l moment answer n fault
       → (same n ≡ same l) × IsCutOff fault (contents l) (contents n) (answer_text moment answer) × (failed n ≡ (if is_output fault then true else failed l))
 
-  module _ {T : Type 0} (m : Meaning T) (old new : T) (rs : List (ℕ × Request)) (from to : L) where
-    pub whole : Prints → IsHeardRun m heard old new rs from to → status from ≡ Done
-        → IsWhole m old new rs (contents from) (contents to) (status to)
-    whole prints run start =
-        let done = printed prints rs run.answers from to run.heard_all in
-        record { answers = run.answers; each = done.each; run = run.run; text = done.text; ends = done.ends [] start }
+  module _ {T : Type 0} (m : Meaning T) (handled : T → ℕ → Request → Answer → T → Type 0) (old new : T) (rs : List (ℕ × Request)) (from to : L) where
+    pub whole : Prints → IsHeardBy m handled heard old new rs from to → status from ≡ Done
+        → IsWhole m (AreSteps handled) old new rs (contents from) (contents to) (status to)
+    whole prints done_by start =
+        let done = printed prints rs done_by.run.answers from to done_by.run.heard_all in
+        record { answers = done_by.run.answers; each = done.each; run = done_by.run.run; tells = done_by.steps; text = done.text; ends = done.ends [] start }
 
-    pub whole_fine : Prints → IsHeardRun m heard old new rs from to → failed to ≡ failed from
-    whole_fine prints run = (printed prints rs run.answers from to run.heard_all).fine
+    pub whole_fine : Prints → IsHeardBy m handled heard old new rs from to → failed to ≡ failed from
+    whole_fine prints done_by = (printed prints rs done_by.run.answers from to done_by.run.heard_all).fine
 
-    pub whole_same : Prints → IsHeardRun m heard old new rs from to → same to ≡ same from
-    whole_same prints run = (printed prints rs run.answers from to run.heard_all).same_output
+    pub whole_same : Prints → IsHeardBy m handled heard old new rs from to → same to ≡ same from
+    whole_same prints done_by = (printed prints rs done_by.run.answers from to done_by.run.heard_all).same_output
 
     pub cut : (missed : L → ℕ → Answer → L → ScriptFault → Type 0) (fault : ScriptFault) → Prints → CutsOff missed
-        → IsEndedRun m heard missed old new rs from to fault
-        → IsCut m old new rs (contents from) (contents to) fault
-    cut missed fault prints cuts run =
-        let done = printed prints run.before run.answers from run.met run.heard_before in
+        → IsEndedBy m handled heard missed old new rs from to fault
+        → IsCut m (AreSteps handled) old new rs (contents from) (contents to) fault
+    cut missed fault prints cuts done_by =
+        let done = printed prints done_by.run.before done_by.run.answers from done_by.run.met done_by.run.heard_before in
         record {
-          reported = run.before;
-          request = run.request;
-          later = run.later;
-          are = run.are;
-          answers = run.answers;
+          reported = done_by.run.before;
+          request = done_by.run.request;
+          later = done_by.run.later;
+          are = done_by.run.are;
+          answers = done_by.run.answers;
           each = done.each;
-          answer = run.answer;
-          run = run.run;
-          met = contents run.met;
+          answer = done_by.run.answer;
+          run = done_by.run.run;
+          tells = done_by.steps;
+          met = contents done_by.run.met;
           text = done.text;
-          cut_off = (cuts run.met run.request.0 run.answer to fault run.missed_last).1;
+          cut_off = (cuts done_by.run.met done_by.run.request.0 done_by.run.answer to fault done_by.run.missed_last).1;
         }
 
     pub cut_failed : (missed : L → ℕ → Answer → L → ScriptFault → Type 0) (fault : ScriptFault) → Prints
-        → CutsOff missed → IsEndedRun m heard missed old new rs from to fault
+        → CutsOff missed → IsEndedBy m handled heard missed old new rs from to fault
         → failed to ≡ (if is_output fault then true else failed from)
-    cut_failed missed fault prints cuts run =
-        (cuts run.met run.request.0 run.answer to fault run.missed_last).2
-        ∙ ap (λ before. if is_output fault then true else before) (printed prints run.before run.answers from run.met run.heard_before).fine
+    cut_failed missed fault prints cuts done_by =
+        (cuts done_by.run.met done_by.run.request.0 done_by.run.answer to fault done_by.run.missed_last).2
+        ∙ ap (λ before. if is_output fault then true else before)
+        (printed prints done_by.run.before done_by.run.answers from done_by.run.met done_by.run.heard_before).fine
 
     pub cut_same : (missed : L → ℕ → Answer → L → ScriptFault → Type 0) (fault : ScriptFault) → Prints → CutsOff missed
-        → IsEndedRun m heard missed old new rs from to fault → same to ≡ same from
-    cut_same missed fault prints cuts run =
-        (cuts run.met run.request.0 run.answer to fault run.missed_last).0 ∙ (printed prints run.before run.answers from run.met run.heard_before).same_output
+        → IsEndedBy m handled heard missed old new rs from to fault → same to ≡ same from
+    cut_same missed fault prints cuts done_by =
+        (cuts done_by.run.met done_by.run.request.0 done_by.run.answer to fault done_by.run.missed_last).0
+        ∙ (printed prints done_by.run.before done_by.run.answers from done_by.run.met done_by.run.heard_before).same_output
 
 pub on_ok : {A E P Q : Type 0} (r : Result A E) → (P → Q) → OnOk r P → OnOk r Q
 on_ok (Ok a) f p = f p

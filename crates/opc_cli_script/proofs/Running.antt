@@ -54,13 +54,14 @@ module _ {T : Type 0} (m : Meaning T) where
       (λ sure s represented. subst (λ rs. IsRun m old mid s rs (answers_of (turns ++ turn ∷ []))) (sym asked)
       (subst (λ answers. IsRun m old mid s (requests_of turns) answers) (sym answered) (run sure s represented)))
 
-  pub run_with : (old mid new : T) (turns : List Turn) (turn : Turn) → IsRunOf m old mid turns → IsStep m mid new turn
+  pub run_with : (handled : T → ℕ → Request → Answer → T → Type 0) (old mid new : T) (turns : List Turn) (turn : Turn) → IsRunOf m old mid turns
+      → IsStep m handled mid new turn
       → IsRunOf m old new (turns ++ turn ∷ [])
-  run_with old mid new turns Blank run step = same_run old mid new turns Blank
+  run_with extra old mid new turns Blank run step = same_run old mid new turns Blank
       (requests_more turns Blank ∙ append-nil (requests_of turns)) (answers_more turns Blank ∙ append-nil (answers_of turns)) step run
-  run_with old mid new turns Bad run step = same_run old mid new turns Bad
+  run_with extra old mid new turns Bad run step = same_run old mid new turns Bad
       (requests_more turns Bad ∙ append-nil (requests_of turns)) (answers_more turns Bad ∙ append-nil (answers_of turns)) step run
-  run_with old mid new turns (Answered moment request answer) run step = λ sure s represented.
+  run_with extra old mid new turns (Answered moment request answer) run step = λ sure s represented.
       let turn = Answered moment request answer in
       let was = run (step.0 sure) s represented in
       let more = run_on old mid new s (requests_of turns) (answers_of turns) (moment, request) answer was (step.1 sure was.last was.represented) in

@@ -1,6 +1,8 @@
 -- Lines that are answered, as they are known of what their terminal shows.
 use Rattle.std.proofs.Common.{◌≡◌, ◌+◌, ◌∷◌, ℕ, List, [], Option, Some, None, MatchOption, ap, length}
 use Rattle.opc_state.specs.Meaning.{Meaning}
+use Rattle.opc_machine.specs.declared.request.Answer.{Answer}
+use Rattle.opc_machine.specs.declared.request.Request.{Request}
 use Rattle.opc_cli_failures.specs.declared.status.Status.{Status}
 use Rattle.opc_cli_script.specs.Sessions.{AreTaken, AreTurns, IsCutSession, IsCutTurn, IsReadAs, IsSession, IsShown, IsStep, IsTurn}
 use Rattle.opc_cli_script.specs.declared.fault.NowFault.{NowFault}
@@ -47,50 +49,52 @@ module _ {D E : Type 0} (view : D → E) (reads : E → Typed → E → Type 0) 
     turns_are number (turn ∷ turns) first last are =
         (view are.0, one number turn first are.0 are.1, turns_are (number + 1) turns are.0 last are.2)
 
-    module _ {T : Type 0} (m : Meaning T) where
+    module _ {T : Type 0} (m : Meaning T) (handled : T → ℕ → Request → Answer → T → Type 0) where
       taken : (old new : T) (first last : D) (turns : List Turn)
-          → AreTaken reads_there dates_there says_there held_there m console old new first last turns
-          → AreTaken reads dates says held m console old new (view first) (view last) turns
+          → AreTaken reads_there dates_there says_there held_there m handled console old new first last turns
+          → AreTaken reads dates says held m handled console old new (view first) (view last) turns
       taken old new first last turns t = record { are = turns_are 1 turns first last t.are; text = t.text; run = t.run }
 
-      pub session_viewed : (old new : T) (first last : D) (status : Status)
-          → IsSession reads_there dates_there says_there held_there m console old new first last status
-          → IsSession reads dates says held m console old new (view first) (view last) status
-      session_viewed old new first last status s = record {
+      pub session_viewed : (told : (old new : T) → List (ℕ × Request) → List Answer → Type 0) (old new : T) (first last : D) (status : Status)
+          → IsSession reads_there dates_there says_there held_there m handled console told old new first last status
+          → IsSession reads dates says held m handled console told old new (view first) (view last) status
+      session_viewed told old new first last status s = record {
         turns = s.turns;
         ended = view s.ended;
         taken = taken old new first s.ended s.turns s.taken;
         ends = s.ends;
         silent = s.silent;
         status_is = s.status_is;
+        tells = s.tells;
       }
 
-      read_as : (met : D) (turn : Turn) → IsReadAs reads_there dates_there says_there held_there m console met turn
-          → IsReadAs reads dates says held m console (view met) turn
+      read_as : (met : D) (turn : Turn) → IsReadAs reads_there dates_there says_there held_there m handled console met turn
+          → IsReadAs reads dates says held m handled console (view met) turn
       read_as met turn r = record { typed = r.typed; read_to = view r.read_to; read = r.read; is = r.is }
 
       cut_turn : (number : ℕ) (old new : T) (met last : D) (fault : NowFault)
-          → IsCutTurn reads_there dates_there says_there held_there m
-          (IsReadAs reads_there dates_there says_there held_there m console met) number old new met last fault
-          → IsCutTurn reads dates says held m (IsReadAs reads dates says held m console (view met)) number old new (view met) (view last) fault
+          → IsCutTurn reads_there dates_there says_there held_there m handled
+          (IsReadAs reads_there dates_there says_there held_there m handled console met) number old new met last fault
+          → IsCutTurn reads dates says held m handled (IsReadAs reads dates says held m handled console (view met)) number old new (view met) (view last) fault
       cut_turn number old new met last fault c =
           record { turn = c.turn; fits = c.fits; made = go c.turn c.made; text = c.text }
         where
           go : (turn : Option Turn)
-              → MatchOption turn (new ≡ old) (λ t. IsReadAs reads_there dates_there says_there held_there m console met t × IsStep m old new t)
-              → MatchOption turn (new ≡ old) (λ t. IsReadAs reads dates says held m console (view met) t × IsStep m old new t)
+              → MatchOption turn (new ≡ old) (λ t. IsReadAs reads_there dates_there says_there held_there m handled console met t × IsStep m handled old new t)
+              → MatchOption turn (new ≡ old) (λ t. IsReadAs reads dates says held m handled console (view met) t × IsStep m handled old new t)
           go None same = same
           go (Some t) made = (read_as met t made.0, made.1)
 
-      pub cut_viewed : (old new : T) (first last : D) (fault : NowFault)
-          → IsCutSession reads_there dates_there says_there held_there m console old new first last fault
-          → IsCutSession reads dates says held m console old new (view first) (view last) fault
+      pub cut_viewed : (told : (old new : T) → List (ℕ × Request) → List Answer → Type 0) (old new : T) (first last : D) (fault : NowFault)
+          → IsCutSession reads_there dates_there says_there held_there m handled console told old new first last fault
+          → IsCutSession reads dates says held m handled console told old new (view first) (view last) fault
       unfolding cut_turn
-      cut_viewed old new first last fault c = record {
+      cut_viewed told old new first last fault c = record {
         turns = c.turns;
         mid = c.mid;
         met = view c.met;
         taken = taken old c.mid first c.met c.turns c.taken;
         cut = cut_turn (length c.turns + 1) c.mid new c.met last fault c.cut;
         run = c.run;
+        tells = c.tells;
       }

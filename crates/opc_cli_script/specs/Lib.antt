@@ -9,5 +9,7 @@ pub mod Laws
 pub mod Slips
 pub mod ReadingNow
 pub mod Faults
+pub mod Listening
+pub mod Handlers
 pub mod Turns
 pub mod Sessions

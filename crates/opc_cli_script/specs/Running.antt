@@ -24,13 +24,15 @@ IsCutOff NoMemory before written text = written ≡ before
 IsCutOff (Output error) before written text = AppendsPrefix before written text
 IsCutOff (BadLine number) before written text = ⊥
 
-module _ {T : Type 0} (m : Meaning T) where
+-- In these, `told` is what is more known of the requests that were handled, and of their answers.
+module _ {T : Type 0} (m : Meaning T) (told : (old new : T) → List (ℕ × Request) → List Answer → Type 0) where
   -- All requests were handled, and what was written is the transcript of their answers.
   pub record IsWhole (old new : T) (requests : List (ℕ × Request)) (before written : Option (List ℕ))
       (status : Status) : Type 0 where
     pub answers : List Answer
     pub each : length answers ≡ length requests
     pub run : m.is_sure new → (s : State) → m.represents old s → IsRun m old new s requests answers
+    pub tells : told old new requests answers
     pub text : Appends before written (transcript requests answers)
     pub ends : status ≡ status_of answers
 
@@ -47,6 +49,7 @@ module _ {T : Type 0} (m : Meaning T) where
     pub answer : Answer
     pub run : m.is_sure new → (s : State) → m.represents old s
         → IsRun m old new s (reported ++ request ∷ []) (answers ++ answer ∷ [])
+    pub tells : told old new (reported ++ request ∷ []) (answers ++ answer ∷ [])
     pub met : Option (List ℕ)
     pub text : Appends before met (transcript reported answers)
     pub cut_off : IsCutOff fault met written (answer_text request.0 answer)
@@ -75,8 +78,8 @@ IsBadRun number before written (Ok status) = ⊥
 IsBadRun number before written (Err fault) = IsBadLinePrinted number before written fault
 
 -- A script was run, or its bad line was reported and nothing was run.
-abbrev pub IsAnswered : {T : Type 0} → Meaning T → (old new : T)
-    → (script : List ℕ) → (before written : Option (List ℕ)) → Result Status ScriptFault → Type 0
-IsAnswered m old new script before written result =
-    MatchOption (bad_line script) (IsScriptRun m old new (requests_in script) before written
+abbrev pub IsAnswered : {T : Type 0} → Meaning T → (told : (old new : T) → List (ℕ × Request) → List Answer → Type 0)
+    → (old new : T) → (script : List ℕ) → (before written : Option (List ℕ)) → Result Status ScriptFault → Type 0
+IsAnswered m told old new script before written result =
+    MatchOption (bad_line script) (IsScriptRun m told old new (requests_in script) before written
     result) (λ number. (new ≡ old) × IsBadRun number before written result)

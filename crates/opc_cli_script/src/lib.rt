@@ -3,9 +3,12 @@
 
 pub mod bad_line;
 mod event;
+pub mod event_text;
 pub mod fault;
+pub mod handler;
 pub mod laws;
 pub mod line;
+pub mod listener;
 pub mod printer;
 pub mod reading_now;
 pub mod run;

@@ -2,20 +2,20 @@
 ghost use Rattle.std.specs.Prelude.{◌≡◌, ◌∷◌, ◌++◌, [], IfErr, List, MatchResult, OnOk, if◌then◌else◌, is_err, true};
 ghost use Rattle.std.specs.Io.KnownBytes.{Appends};
 ghost use Rattle.opc_machine.specs.declared.request.Answer.{Answer as TheAnswer};
+ghost use Rattle.opc_cli_script.specs.Handlers.{AreSteps};
 ghost use Rattle.opc_cli_script.specs.Refusals.{is_cut_by_output, is_output};
 ghost use Rattle.opc_cli_script.specs.Running.{AppendsPrefix, IsCut, IsCutOff, IsWhole};
 ghost use Rattle.opc_cli_script.specs.Statuses.{status_of};
 ghost use Rattle.opc_cli_script.specs.Transcripts.{answer_text};
 
+use crate::handler::{RequestHandler, run_heard};
+use crate::listener::Listener;
 use crate::script::ScriptFault;
 use crate::status::status_after;
 use crate::transcript::answer_text;
 use opc_cli_failures::status::Status;
-use opc_gate::gate::Gate;
-use opc_gate::listener::Listener;
 use opc_gate::request::{Answer, Request};
 use opc_io::sink::Sink;
-use opc_state::tables::Tables;
 use std::alloc::Global;
 use std::io;
 
@@ -25,7 +25,15 @@ pub fn write_text<K: Sink>(output: &mut K, text: &str) -> io::Result<()>
         (λ _. AppendsPrefix (K.held output.old) (K.held output.new) text.now) }
     ensures failed { K.has_failed output.new ≡ (if is_err result then true else K.has_failed output.old) }
 {
-    let bytes = text.as_bytes();
+    write_bytes(output, text.as_bytes())
+}
+
+/// Writes bytes, or, if the output fails, a prefix of them.
+pub fn write_bytes<K: Sink>(output: &mut K, bytes: &[u8]) -> io::Result<()>
+    ensures text { MatchResult result (λ _. Appends (K.held output.old) (K.held output.new) bytes.now)
+        (λ _. AppendsPrefix (K.held output.old) (K.held output.new) bytes.now) }
+    ensures failed { K.has_failed output.new ≡ (if is_err result then true else K.has_failed output.old) }
+{
     // A loop of its own, for the same reasons as in `write_whole`.
     let mut done = 0;
     while done < bytes.len() {
@@ -47,22 +55,22 @@ pub(crate) struct Printer<'a, K: Sink> {
 
 impl<K: Sink> Printer<'_, K> {
     /// Runs requests over a gate, and prints each answer before the next request is handled.
-    pub fn run<T: Tables>(
+    pub fn run<X: RequestHandler>(
         &mut self,
-        gate: &mut Gate<T>,
+        gate: &mut X,
         requests: &[(u64, Request)],
     ) -> Result<(), ScriptFault>
-        ensures sure { T.meaning.is_sure gate.new → T.meaning.is_sure gate.old }
+        ensures sure { X.meaning.is_sure gate.new → X.meaning.is_sure gate.old }
         ensures same_reference { self.new.output.ghost_name ≡ self.old.output.ghost_name }
         ensures whole { self.old.status ≡ Status.Done
-            → OnOk result (IsWhole T.meaning gate.old gate.new requests.now
+            → OnOk result (IsWhole X.meaning (AreSteps X.handled) gate.old gate.new requests.now
             (K.held self.old.output.now) (K.held self.new.output.now) self.new.status) }
-        ensures cut { IfErr result (IsCut T.meaning gate.old gate.new requests.now
+        ensures cut { IfErr result (IsCut X.meaning (AreSteps X.handled) gate.old gate.new requests.now
             (K.held self.old.output.now) (K.held self.new.output.now)) }
         ensures failed { K.has_failed self.new.output.now
             ≡ (if is_cut_by_output result then true else K.has_failed self.old.output.now) }
     {
-        gate.run_heard(self.alloc, requests, self)
+        run_heard(gate, self.alloc, requests, self)
     }
 }
 

@@ -2,17 +2,17 @@
 ghost use Rattle.std.specs.Prelude.{◌≡◌, ◌∷◌, ◌++◌, [], IfErr, IfOk, List, true, if◌then◌else◌};
 ghost use Rattle.opc_cli_script.specs.declared.turn.Turn.{Turn as TheTurn};
 ghost use Rattle.opc_cli_script.specs.Faults.{is_cut_by_output};
+ghost use Rattle.opc_cli_script.specs.Handlers.{AreSteps};
 ghost use Rattle.opc_cli_script.specs.Sessions.{IsCutSession, IsSession};
 ghost use Rattle.opc_cli_script.specs.Turns.{IsStandingOf, status_of_turns, status_with};
 
 use crate::fault::NowFault;
+use crate::handler::RequestHandler;
 use crate::status::status_after;
 use crate::terminal::Terminal;
 use crate::turn::{Turn, take_turn};
 use opc_cli_failures::status::Status;
-use opc_gate::gate::Gate;
 use opc_names::name::ConsoleName;
-use opc_state::tables::Tables;
 use std::alloc::Global;
 use std::io;
 use std::io::ErrorKind;
@@ -58,16 +58,18 @@ fn status_of(standing: Standing) -> Status
 /// printed as a bad line, and the next is read. What is printed is what a script would print of the same requests, at
 /// the times that the clock showed. If the input, the clock or the output fails, no further line is read; a request
 /// whose answer was not printed as a whole is handled.
-pub fn answer_lines<D: Terminal, T: Tables>(
-    gate: &mut Gate<T>,
+pub fn answer_lines<D: Terminal, X: RequestHandler>(
+    gate: &mut X,
     alloc: Global,
     console: &Option<ConsoleName>,
     terminal: &mut D,
 ) -> Result<Status, NowFault>
-    ensures sure { T.meaning.is_sure gate.new → T.meaning.is_sure gate.old }
-    ensures answered { IfOk result (IsSession D.reads D.dates D.says D.held T.meaning console.now gate.old gate.new
+    ensures sure { X.meaning.is_sure gate.new → X.meaning.is_sure gate.old }
+    ensures answered { IfOk result (IsSession D.reads D.dates D.says D.held X.meaning X.handled console.now
+        (AreSteps X.handled) gate.old gate.new
         terminal.old terminal.new) }
-    ensures cut { IfErr result (IsCutSession D.reads D.dates D.says D.held T.meaning console.now gate.old gate.new
+    ensures cut { IfErr result (IsCutSession D.reads D.dates D.says D.held X.meaning X.handled console.now
+        (AreSteps X.handled) gate.old gate.new
         terminal.old terminal.new) }
     ensures same { D.identity terminal.new ≡ D.identity terminal.old }
     ensures failed { D.has_failed terminal.new ≡ (if is_cut_by_output result then true else D.has_failed terminal.old) }

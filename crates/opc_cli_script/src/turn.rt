@@ -10,6 +10,7 @@ ghost use Rattle.opc_cli_script.specs.Turns.{IsAnswerOf, IsTurnOfLine, request_o
 
 use crate::bad_line::{bad_line, slip_after};
 use crate::fault::NowFault;
+use crate::handler::RequestHandler;
 use crate::line::{is_blank, untimed_request_in};
 use crate::reading_now::Typed;
 use crate::terminal::Terminal;
@@ -18,10 +19,8 @@ use opc_board::text::KeptText;
 use opc_cli_commands::hint_about;
 use opc_cli_failures::bad_line::LineForm;
 use opc_cli_failures::reason::Reason;
-use opc_gate::gate::Gate;
 use opc_machine::request::{Answer, Request};
 use opc_names::name::ConsoleName;
-use opc_state::tables::Tables;
 use opc_terms::fault::Fault;
 use std::alloc::{AllocError, Global};
 
@@ -77,23 +76,23 @@ fn note_hint<D: Terminal>(alloc: Global, request: &Request, answer: &Answer, ter
 }
 
 /// Handles a request at the clock's time, and shows its answer.
-fn answer<D: Terminal, T: Tables>(
-    gate: &mut Gate<T>,
+fn answer<D: Terminal, X: RequestHandler>(
+    gate: &mut X,
     alloc: Global,
     request: Request,
     number: usize,
     terminal: &mut D,
 ) -> Result<Turn, NowFault>
-    ensures sure { T.meaning.is_sure gate.new → T.meaning.is_sure gate.old }
-    ensures turn { IfOk result (IsShownTurn D.reads D.dates D.says D.held T.meaning (IsAnswerOf request) number gate.old
-        gate.new terminal.old terminal.new) }
-    ensures cut { IfErr result (IsCutTurn D.reads D.dates D.says D.held T.meaning (IsAnswerOf request) number gate.old
-        gate.new terminal.old terminal.new) }
+    ensures sure { X.meaning.is_sure gate.new → X.meaning.is_sure gate.old }
+    ensures turn { IfOk result (IsShownTurn D.reads D.dates D.says D.held X.meaning X.handled (IsAnswerOf request) number
+        gate.old gate.new terminal.old terminal.new) }
+    ensures cut { IfErr result (IsCutTurn D.reads D.dates D.says D.held X.meaning X.handled (IsAnswerOf request) number
+        gate.old gate.new terminal.old terminal.new) }
     ensures same { D.identity terminal.new ≡ D.identity terminal.old }
     ensures failed { D.has_failed terminal.new ≡ (if is_cut_by_output result then true else D.has_failed terminal.old) }
 {
     let moment = terminal.moment()?;
-    let answer = gate.handle(alloc, moment, &request);
+    let answer = gate.handle_one(alloc, moment, &request);
     let text = answer_text(alloc, moment, &answer)?;
     terminal.say(text.as_str())?;
     note_hint(alloc, &request, &answer, terminal);
@@ -132,18 +131,18 @@ fn reason_of(number: usize, line: &str) -> Reason {
 }
 
 /// Answers a line that is a text.
-fn take_line<D: Terminal, T: Tables>(
-    gate: &mut Gate<T>,
+fn take_line<D: Terminal, X: RequestHandler>(
+    gate: &mut X,
     alloc: Global,
     console: &Option<ConsoleName>,
     number: usize,
     line: &str,
     terminal: &mut D,
 ) -> Result<Turn, NowFault>
-    ensures sure { T.meaning.is_sure gate.new → T.meaning.is_sure gate.old }
-    ensures turn { IfOk result (IsShownTurn D.reads D.dates D.says D.held T.meaning
+    ensures sure { X.meaning.is_sure gate.new → X.meaning.is_sure gate.old }
+    ensures turn { IfOk result (IsShownTurn D.reads D.dates D.says D.held X.meaning X.handled
         (IsTurnOfLine console.now line.now) number gate.old gate.new terminal.old terminal.new) }
-    ensures cut { IfErr result (IsCutTurn D.reads D.dates D.says D.held T.meaning
+    ensures cut { IfErr result (IsCutTurn D.reads D.dates D.says D.held X.meaning X.handled
         (IsTurnOfLine console.now line.now) number gate.old gate.new terminal.old terminal.new) }
     ensures same { D.identity terminal.new ≡ D.identity terminal.old }
     ensures failed { D.has_failed terminal.new ≡ (if is_cut_by_output result then true else D.has_failed terminal.old) }
@@ -158,20 +157,21 @@ fn take_line<D: Terminal, T: Tables>(
 }
 
 /// Reads a line and answers it; or the input has ended.
-pub(crate) fn take_turn<D: Terminal, T: Tables>(
-    gate: &mut Gate<T>,
+pub(crate) fn take_turn<D: Terminal, X: RequestHandler>(
+    gate: &mut X,
     alloc: Global,
     console: &Option<ConsoleName>,
     number: usize,
     terminal: &mut D,
 ) -> Result<Option<Turn>, NowFault>
-    ensures sure { T.meaning.is_sure gate.new → T.meaning.is_sure gate.old }
+    ensures sure { X.meaning.is_sure gate.new → X.meaning.is_sure gate.old }
     ensures turn { IfOk result (λ turn. MatchOption turn
-        (IsOver D.reads D.dates D.says D.held T.meaning console.now gate.old gate.new terminal.old terminal.new)
-        (IsTakenTurn D.reads D.dates D.says D.held T.meaning console.now number gate.old gate.new terminal.old
+        (IsOver D.reads D.dates D.says D.held X.meaning X.handled console.now gate.old gate.new terminal.old
+        terminal.new)
+        (IsTakenTurn D.reads D.dates D.says D.held X.meaning X.handled console.now number gate.old gate.new terminal.old
         terminal.new)) }
-    ensures cut { IfErr result (IsCutTurn D.reads D.dates D.says D.held T.meaning
-        (IsReadAs D.reads D.dates D.says D.held T.meaning console.now terminal.old) number gate.old gate.new
+    ensures cut { IfErr result (IsCutTurn D.reads D.dates D.says D.held X.meaning X.handled
+        (IsReadAs D.reads D.dates D.says D.held X.meaning X.handled console.now terminal.old) number gate.old gate.new
         terminal.old terminal.new) }
     ensures same { D.identity terminal.new ≡ D.identity terminal.old }
     ensures failed { D.has_failed terminal.new ≡ (if is_cut_by_output result then true else D.has_failed terminal.old) }

@@ -1,3 +1,2 @@
 pub mod Handled
-pub mod Listening
 pub mod Running

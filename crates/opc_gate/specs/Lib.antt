@@ -1,5 +1,4 @@
 pub mod Handling
-pub mod Listening
 pub use Rattle.opc_gate_imports.specs.RowEdits
 pub use Rattle.opc_machine.specs.Bootstrap
 pub use Rattle.opc_machine.specs.Inputs

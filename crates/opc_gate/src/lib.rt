@@ -3,11 +3,9 @@
 
 mod console;
 pub mod gate;
-pub mod listener;
 pub mod run;
 
 pub use crate::gate::Gate;
-pub use crate::listener::Listener;
 pub use opc_machine::operation::Operation;
 pub use opc_machine::request::{Answer, Request};
 pub use opc_machine::{operation, outcome, request};

@@ -1,11 +1,9 @@
 //! Runs of requests over a gate.
-ghost use Rattle.std.specs.Prelude.{◌≡◌, IfErr, IfOk, OnErr, OnOk, length};
+ghost use Rattle.std.specs.Prelude.{◌≡◌, IfOk, OnErr, length};
 ghost use Rattle.opc_state.specs.State.{State};
 ghost use Rattle.opc_gate.specs.Handling.{IsRun};
-ghost use Rattle.opc_gate.specs.Listening.{IsEndedRun, IsHeardRun};
 
 use crate::gate::Gate;
-use crate::listener::Listener;
 use opc_machine::request::{Answer, Request};
 use opc_state::tables::Tables;
 use std::alloc::{AllocError, Global};
@@ -31,27 +29,5 @@ impl<T: Tables> Gate<T> {
             answers.push_reserved(self.handle(alloc, request.0, &request.1));
         }
         Ok(answers)
-    }
-
-    /// Runs requests and passes each answer to a listener before the next request is handled; no answer is stored. The
-    /// answers, the state and what a crash leaves are those of `run`. If an answer is not received, the run ends with
-    /// that request, which is handled.
-    pub fn run_heard<L: Listener>(
-        &mut self,
-        alloc: Global,
-        requests: &[(u64, Request)],
-        listener: &mut L,
-    ) -> Result<(), L::Fault>
-        ensures sure { T.meaning.is_sure self.new → T.meaning.is_sure self.old }
-        ensures heard { OnOk result (IsHeardRun T.meaning L.heard self.old self.new requests.now
-            listener.old listener.new) }
-        ensures ended { IfErr result (IsEndedRun T.meaning L.heard L.missed self.old self.new requests.now
-            listener.old listener.new) }
-    {
-        for request in requests {
-            let answer = self.handle(alloc, request.0, &request.1);
-            listener.hear(request.0, &answer)?;
-        }
-        Ok(())
     }
 }

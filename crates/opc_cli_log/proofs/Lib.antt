@@ -1,0 +1,4 @@
+mod Accounted
+mod Added
+pub mod Logged
+pub mod Unlogged

@@ -21,8 +21,10 @@ ghost use Rattle.opc_io.specs.Writes.{AppendsPrefix};
 ghost use Rattle.opc_http_requests.specs.Asked.{MayRead, StopsAtEnd};
 ghost use Rattle.opc_http.specs.Exchange.{IsCutOff, IsFaulty, IsReplyWritten, IsServed, is_read, is_write};
 ghost use Rattle.opc_http.specs.Told.{IsEntry};
+ghost use Rattle.opc_http.specs.Trails.{IsTrailed};
 
-use crate::telling::{Exchanged, answer, told};
+use crate::telling::{Exchanged, answer, told, told_answer};
+use crate::trail::Trail;
 use opc_gate::gate::Gate;
 use opc_http_requests::ask::read_request;
 use opc_http_requests::fault::ReadingFault;
@@ -127,19 +129,20 @@ pub fn exchange<T: Tables, S: Source, K: Sink>(
     ensures read { S.has_failed source.new ≡ is_read result }
     ensures write { K.has_failed sink.new ≡ is_write result }
 {
-    exchange_told(alloc, routes, source, sink, gate, moment, false).served
+    exchange_told(alloc, routes, source, sink, gate, moment, &mut ()).served
 }
 
-/// Does what `exchange` does, and if `is_told` it also returns the log entry. For that it loads for whom the console
-/// acts, before the request is handled, and after it the number of its row of the account.
-pub fn exchange_told<T: Tables, S: Source, K: Sink>(
+/// Does what `exchange` does, lets a trail follow a request before its response is written, and if the trail requests it,
+/// also returns the log entry. For that it loads for whom the console acts, before the request is handled, and after it
+/// the number of its row of the account.
+pub fn exchange_told<T: Tables, S: Source, K: Sink, R: Trail>(
     alloc: Global,
     routes: &Routes,
     source: &mut S,
     sink: &mut K,
     gate: &mut Gate<T>,
     moment: u64,
-    is_told: bool,
+    trail: &mut R,
 ) -> Exchanged
     requires reader { S.has_failed source.old ≡ false }
     requires writer { K.has_failed sink.old ≡ false }
@@ -153,44 +156,27 @@ pub fn exchange_told<T: Tables, S: Source, K: Sink>(
     ensures reads { ReadsOnly S.left S.gives (MayRead routes.now) source.old [] source.new }
     ensures read { S.has_failed source.new ≡ is_read result.served }
     ensures write { K.has_failed sink.new ≡ is_write result.served }
-    ensures entry { is_some result.entry ≡ is_told }
+    ensures entry { is_some result.entry ≡ R.tells trail.old }
     ensures told { IfSome result.entry (IsEntry routes.now T.meaning (S.left source.old) gate.old gate.new moment
         (K.held sink.old) (K.held sink.new) result.served) }
+    ensures trailed { IsTrailed R.follows R.stays routes.now T.meaning (S.left source.old) gate.old gate.new moment
+        (K.held sink.old) (K.held sink.new) result.served result.entry trail.old trail.new }
 {
+    let is_told = trail.is_told();
     match read_request(alloc, routes, source) {
         Ok(request) => {
-            let handled = answer(alloc, gate, moment, &request, is_told);
-            let served = send_answer(alloc, sink, &handled.answer);
-            let reply = Some(Ok(handled.answer));
-            told(
-                is_told,
-                moment,
-                Some(request),
-                handled.user,
-                reply,
-                handled.row,
-                served,
-            )
+            let answered = answer(alloc, gate, sink, moment, &request, trail);
+            let served = send_answer(alloc, sink, &answered.answer);
+            told_answer(is_told, moment, request, answered, served)
         }
         Err(ReadingFault::Refused(refusal)) => {
             let served = send_refusal(alloc, sink, &refusal);
-            told(
-                is_told,
-                moment,
-                None,
-                Ok(None),
-                Some(Err(refusal)),
-                Ok(None),
-                served,
-            )
+            told(is_told, moment, Some(Err(refusal)), served)
         }
-        Err(ReadingFault::Read) => {
-            let served = Err(LinkFault::Read);
-            told(is_told, moment, None, Ok(None), None, Ok(None), served)
-        }
+        Err(ReadingFault::Read) => told(is_told, moment, None, Err(LinkFault::Read)),
         Err(ReadingFault::NoMemory) => {
             let served = Err(LinkFault::NoMemory { handled: false });
-            told(is_told, moment, None, Ok(None), None, Ok(None), served)
+            told(is_told, moment, None, served)
         }
     }
 }

@@ -5,7 +5,8 @@
 
 mod exchanging;
 pub mod laws;
-mod telling;
+pub mod telling;
+pub mod trail;
 
 pub use crate::exchanging::{LinkFault, Served, exchange, exchange_told};
 pub use crate::telling::Exchanged;

@@ -1,20 +1,25 @@
 //! The log entry of an exchange, if one is requested.
 ghost use Rattle.std.specs.Bool.{then_some};
-ghost use Rattle.std.specs.Prelude.{◌≡◌, ◌&&◌, IfOk, None, Some, if◌then◌else◌, length, true};
+ghost use Rattle.std.specs.Prelude.{◌≡◌, ◌&&◌, IfOk, None, Ok, Some, if◌then◌else◌, length, true};
 ghost use Rattle.opc_machine.specs.Inputs.{input_of};
 ghost use Rattle.opc_machine.specs.Machine.{user_acting};
 ghost use Rattle.opc_gate.specs.Handling.{IsHandled};
 ghost use Rattle.opc_http.specs.Told.{IsNumbered, has_row, status_in};
+ghost use Rattle.opc_http.specs.Trails.{IsFollowed};
 ghost use Rattle.opc_state.specs.Asked.{Loads};
 ghost use Rattle.opc_state.specs.Changes.{IsKept};
 ghost use Rattle.opc_state.specs.State.{State};
 
 use crate::exchanging::{LinkFault, Served};
+use crate::trail::Trail;
+use opc_board::text::KeptText;
 use opc_gate::gate::Gate;
 use opc_http_log::entry::LogEntry;
 use opc_http_requests::refusal::HttpRefusal;
+use opc_io::sink::Sink;
 use opc_machine::request::{Answer, Request};
 use opc_names::name::UserId;
+use opc_policy_folder::fault::PolicyFault;
 use opc_state::tables::Tables;
 use opc_terms::fault::Fault;
 use opc_terms::rule::Rule;
@@ -36,6 +41,8 @@ pub(crate) struct Answered {
     pub(crate) answer: Answer,
     /// The number of its row of the account, if that was requested, it has one, and the number could be loaded.
     pub(crate) row: Result<Option<u64>, StoreFault>,
+    /// What became of the policy.
+    pub(crate) policy: Result<Option<KeptText>, PolicyFault>,
 }
 
 fn status_in(served: &Result<Served, LinkFault>) -> Option<u16>
@@ -81,8 +88,8 @@ fn has_row(answer: &Answer) -> bool
     }
 }
 
-// The number of the row that the account got for an answer, if it got one and that is to be logged.
-fn row_of<T: Tables>(
+/// The number of the row that the account got for an answer, if it got one and that is to be logged.
+pub fn row_of<T: Tables>(
     alloc: Global,
     gate: &mut Gate<T>,
     answer: &Answer,
@@ -98,56 +105,102 @@ fn row_of<T: Tables>(
     }
 }
 
-// Handles a request, and returns for whom its console acted before it, and which row of the account is its own, if that
-// is to be logged. The answer states neither, so one call of the gate loads the user before the request, and one the
-// number of the row after it.
-pub(crate) fn answer<T: Tables>(
+// Handles a request and lets the trail follow it, before its response. Returns for whom its console acted before it, and
+// which row of the account is its own, if that is to be logged: the answer states neither, so one call of the gate loads
+// the user before the request, and one the number of the row after it.
+pub(crate) fn answer<T: Tables, K: Sink, R: Trail>(
     alloc: Global,
     gate: &mut Gate<T>,
+    sink: &K,
     moment: u64,
     request: &Request,
-    is_told: bool,
+    trail: &mut R,
 ) -> Answered
     ensures sure { T.meaning.is_sure gate.new → T.meaning.is_sure gate.old }
     ensures handled { T.meaning.is_sure gate.new → (s : State) → T.meaning.represents gate.old s
         → IsHandled T.meaning gate.old gate.new s moment (input_of request.now) result.answer }
-    ensures user { is_told ≡ true → T.meaning.is_sure gate.new → (s : State) → T.meaning.represents gate.old s
-        → IfOk result.user (λ u. u ≡ user_acting s (input_of request.now)) }
-    ensures row { is_told ≡ true → T.meaning.is_sure gate.new → (s : State) → T.meaning.represents gate.old s
+    ensures user { R.tells trail.old ≡ true → T.meaning.is_sure gate.new → (s : State)
+        → T.meaning.represents gate.old s → IfOk result.user (λ u. u ≡ user_acting s (input_of request.now)) }
+    ensures row { R.tells trail.old ≡ true → T.meaning.is_sure gate.new → (s : State)
+        → T.meaning.represents gate.old s
         → IfOk result.row (IsNumbered T.meaning gate.new s moment (input_of request.now) result.answer) }
+    ensures stays { R.stays trail.old trail.new }
+    ensures followed { T.meaning.is_sure gate.new → (s : State) → T.meaning.represents gate.old s
+        → IsFollowed R.follows T.meaning gate.new s moment request.now result.answer (K.held sink.now) result.policy
+        trail.old trail.new }
 {
+    let is_told = trail.is_told();
     let user = acting_user(alloc, gate, request, is_told);
     let answer = gate.handle(alloc, moment, request);
     let row = row_of(alloc, gate, &answer, is_told);
-    Answered { user, answer, row }
+    let policy = trail.follow(alloc, gate, sink, moment, request, &answer);
+    Answered {
+        user,
+        answer,
+        row,
+        policy,
+    }
 }
 
-// The outcome of an exchange that ended like this, with its entry if it is to be logged.
-pub(crate) fn told(
+// The outcome of an exchange whose request was answered, with its entry if it is to be logged.
+pub(crate) fn told_answer(
     is_told: bool,
     moment: u64,
-    request: Option<Request>,
-    user: Result<Option<UserId>, StoreFault>,
-    reply: Option<Result<Answer, HttpRefusal>>,
-    row: Result<Option<u64>, StoreFault>,
+    request: Request,
+    answered: Answered,
     served: Result<Served, LinkFault>,
 ) -> Exchanged
     ensures served { result.served ≡ served }
     ensures entry { result.entry ≡ then_some is_told (record {
       moment = moment;
-      request = request;
-      user = user;
-      reply = reply;
-      row = row;
+      request = Some request;
+      user = answered.user;
+      reply = Some (Ok answered.answer);
+      row = answered.row;
+      policy = answered.policy;
       status = status_in served;
     }) }
 {
     let entry = LogEntry {
         moment,
-        request,
-        user,
+        request: Some(request),
+        user: answered.user,
+        reply: Some(Ok(answered.answer)),
+        row: answered.row,
+        policy: answered.policy,
+        status: status_in(&served),
+    };
+    Exchanged {
+        served,
+        entry: is_told.then_some(entry),
+    }
+}
+
+// The outcome of an exchange without an answer, with its entry if it is to be logged.
+pub(crate) fn told(
+    is_told: bool,
+    moment: u64,
+    reply: Option<Result<Answer, HttpRefusal>>,
+    served: Result<Served, LinkFault>,
+) -> Exchanged
+    ensures served { result.served ≡ served }
+    ensures entry { result.entry ≡ then_some is_told (record {
+      moment = moment;
+      request = None;
+      user = Ok None;
+      reply = reply;
+      row = Ok None;
+      policy = Ok None;
+      status = status_in served;
+    }) }
+{
+    let entry = LogEntry {
+        moment,
+        request: None,
+        user: Ok(None),
         reply,
-        row,
+        row: Ok(None),
+        policy: Ok(None),
         status: status_in(&served),
     };
     Exchanged {

@@ -18,7 +18,6 @@ use Rattle.std.proofs.Common.{
   ap,
   append_assoc,
   arith,
-  codes,
   drop,
   length,
   length-append,

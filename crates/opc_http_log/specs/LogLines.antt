@@ -7,7 +7,6 @@ use Rattle.std.specs.Prelude.{
   false,
   List,
   [],
-  ◌∷◌,
   ◌++◌,
   Option,
   Some,
@@ -28,6 +27,7 @@ use Rattle.opc_terms.specs.declared.rule.Rule.{Rule}
 use Rattle.opc_terms.specs.declared.store_fault.StoreFault.{StoreFault}
 use Rattle.opc_board.specs.Texts.{text_or}
 use Rattle.opc_machine.specs.Inputs.{console_of, input_of}
+use Rattle.opc_policy_folder.specs.declared.fault.PolicyFault.{PolicyFault}
 use Rattle.opc_machine.specs.declared.request.Answer.{Answer}
 use Rattle.opc_machine.specs.declared.request.Answer.TheVariants.{Done, Refused}
 use Rattle.opc_machine.specs.declared.request.Request.{Request}
@@ -160,11 +160,20 @@ what_text entry = field (words_text entry.request) ++ (reason_text entry.reply +
 abbrev pub fields_of : LogEntry → List ℕ
 fields_of entry = who_text entry ++ outcome_text entry ++ what_text entry
 
--- the fields, with the time before them
+-- The name of the state of the policy that was brought into its folder, if one was; or `-` and why it was not, in
+-- words of the system, which are not known.
+abbrev pub IsPolicyText : Result (Option (List ℕ)) PolicyFault → List ℕ → Type 0
+IsPolicyText (Ok None) text = text ≡ []
+IsPolicyText (Ok (Some name)) text = text ≡ codes " POLICY " ++ name
+IsPolicyText (Err fault) text = (reason : List ℕ) × (text ≡ codes " POLICY - " ++ reason)
+
+-- the fields, with the time before them, and the state of the policy after them
 pub record IsLineText (entry : LogEntry) (text : List ℕ) : Type 0 where
   pub time : List ℕ
+  pub policy : List ℕ
   pub at : IsTime entry.moment time
-  pub is : text ≡ field time ++ fields_of entry
+  pub kept : IsPolicyText entry.policy policy
+  pub is : text ≡ field time ++ fields_of entry ++ policy
 
 pub record IsLogLine (entry : LogEntry) (line : List ℕ) : Type 0 where
   pub text : List ℕ

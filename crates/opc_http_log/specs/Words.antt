@@ -7,8 +7,6 @@ use Rattle.std.specs.Prelude.{
   ◌∷◌,
   ◌++◌,
   Option,
-  Some,
-  None,
   codes,
   decimal,
   if◌then◌else◌,

@@ -1,7 +1,9 @@
 //! The log entry of an exchange.
+use opc_board::text::KeptText;
 use opc_http_requests::refusal::HttpRefusal;
 use opc_machine::request::{Answer, Request};
 use opc_names::name::UserId;
+use opc_policy_folder::fault::PolicyFault;
 use opc_terms::store_fault::StoreFault;
 
 /// An exchange that is over.
@@ -17,6 +19,8 @@ pub struct LogEntry {
     pub reply: Option<Result<Answer, HttpRefusal>>,
     /// The number of the row that the account got for the request, if it got one and the number could be loaded.
     pub row: Result<Option<u64>, StoreFault>,
+    /// The name of the state of the policy that was brought into its folder, if one was, or why it was not.
+    pub policy: Result<Option<KeptText>, PolicyFault>,
     /// The status of the response, if that was written whole.
     pub status: Option<u16>,
 }

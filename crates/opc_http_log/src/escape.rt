@@ -34,7 +34,7 @@ fn push_printable(line: &mut Vec<u8>, byte: u8) -> Result<(), AllocError>
 }
 
 /// The bytes as printable ones.
-pub(crate) fn printable(alloc: Global, bytes: &[u8]) -> Result<Vec<u8>, AllocError>
+pub fn printable(alloc: Global, bytes: &[u8]) -> Result<Vec<u8>, AllocError>
     ensures { IfOk result (λ line. line.items ≡ flat_map printable bytes.now) }
 {
     let mut line = Vec::new(alloc);

@@ -2,9 +2,9 @@
 #![tactic(auto)]
 
 pub mod entry;
-mod escape;
+pub mod escape;
 pub mod laws;
 pub mod line;
 mod operation;
 mod typed;
-mod words;
+pub mod words;

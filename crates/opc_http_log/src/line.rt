@@ -1,9 +1,10 @@
 //! The line of an exchange in a log.
-ghost use Rattle.std.specs.Prelude.{◌≡◌, ◌++◌, IfOk, OnOk, codes, string_bytes};
+ghost use Rattle.std.specs.Prelude.{◌≡◌, ◌++◌, IfOk, Ok, OnOk, Some, string_bytes};
 ghost use Rattle.opc_http_requests.specs.declared.refusal.InvalidPart.TheVariants as part;
 ghost use Rattle.opc_http_log.specs.LogLines.{
   IsLineText,
   IsLogLine,
+  IsPolicyText,
   code_text,
   console_text,
   details_text,
@@ -27,15 +28,18 @@ ghost use Rattle.opc_http_log.specs.LogLines.{
 use crate::entry::LogEntry;
 use crate::escape::printable;
 use crate::words::shown_request;
+use opc_board::text::KeptText;
 use opc_http_requests::body_key::BodyKey;
 use opc_http_requests::refusal::{HttpRefusal, InvalidPart};
 use opc_machine::request::{Answer, Request};
 use opc_names::name::UserId;
+use opc_policy_folder::fault::PolicyFault;
 use opc_terms::fault::Fault;
 use opc_terms::rule::Rule;
 use opc_terms::store_fault::StoreFault;
 use opc_times::time::time_text;
 use std::alloc::{AllocError, Global};
+use std::io;
 
 /// What stands for nothing.
 const NOTHING: &str = "-";
@@ -55,7 +59,7 @@ fn console_text(request: &Option<Request>) -> &str
     }
 }
 
-fn user_text(user: &Result<Option<UserId>, StoreFault>) -> &str
+pub fn user_text(user: &Result<Option<UserId>, StoreFault>) -> &str
     ensures { result.now ≡ user_text user.now }
 {
     match user {
@@ -78,14 +82,24 @@ fn refusal_code(refusal: &HttpRefusal) -> &'static str
     }
 }
 
+/// The code of an answer, if it is a refusal.
+pub fn answer_code(answer: &Answer) -> &str
+    ensures { result.now ≡ code_text (Some (Ok answer.now)) }
+{
+    match answer {
+        Answer::Refused { fault, .. } => fault.code(),
+        Answer::Done { .. } => NOTHING,
+    }
+}
+
 /// The code of the reply, if it is a refusal.
 fn code_text(reply: &Option<Result<Answer, HttpRefusal>>) -> &str
     ensures { result.now ≡ code_text reply.now }
 {
     match reply {
-        Some(Ok(Answer::Refused { fault, .. })) => fault.code(),
+        Some(Ok(answer)) => answer_code(answer),
         Some(Err(refusal)) => refusal_code(refusal),
-        Some(Ok(Answer::Done { .. })) | None => NOTHING,
+        None => NOTHING,
     }
 }
 
@@ -180,6 +194,16 @@ fn refusal_text(alloc: Global, refusal: &HttpRefusal) -> Result<String, AllocErr
     }
 }
 
+/// Why it came to an answer.
+pub fn answer_reason(alloc: Global, answer: &Answer) -> Result<String, AllocError>
+    ensures { IfOk result (λ text. string_bytes text ≡ reason_text (Some (Ok answer.now))) }
+{
+    match answer {
+        Answer::Done { rule, .. } => Rule::text_or_none(alloc, rule.as_ref()),
+        Answer::Refused { fault, rule } => refused_text(alloc, fault, rule),
+    }
+}
+
 /// Why it came to what was replied.
 fn reason_text(
     alloc: Global,
@@ -188,15 +212,14 @@ fn reason_text(
     ensures { IfOk result (λ text. string_bytes text ≡ reason_text reply.now) }
 {
     match reply {
-        Some(Ok(Answer::Done { rule, .. })) => Rule::text_or_none(alloc, rule.as_ref()),
-        Some(Ok(Answer::Refused { fault, rule })) => refused_text(alloc, fault, rule),
+        Some(Ok(answer)) => answer_reason(alloc, answer),
         Some(Err(refusal)) => refusal_text(alloc, refusal),
         None => String::from_str(alloc, NOTHING),
     }
 }
 
 /// The row of the account, after a space, if there is one.
-fn row_text(alloc: Global, row: &Result<Option<u64>, StoreFault>) -> Result<String, AllocError>
+pub fn row_text(alloc: Global, row: &Result<Option<u64>, StoreFault>) -> Result<String, AllocError>
     ensures { IfOk result (λ text. string_bytes text ≡ row_text row.now) }
 {
     match row {
@@ -206,15 +229,52 @@ fn row_text(alloc: Global, row: &Result<Option<u64>, StoreFault>) -> Result<Stri
     }
 }
 
+/// The words of the system for an error, without its number.
+fn system_words(alloc: Global, error: io::Error) -> Result<String, AllocError> {
+    let words = format!(in alloc; "{error}")?;
+    match words.as_str().split_once(" (os error ") {
+        Some((text, _)) => String::from_str(alloc, text),
+        None => String::from_str(alloc, words.as_str()),
+    }
+}
+
+/// Why a state of the policy is not in its folder.
+fn policy_fault_text(alloc: Global, fault: PolicyFault) -> Result<String, AllocError> {
+    match fault {
+        PolicyFault::System(error) => system_words(alloc, error),
+        PolicyFault::Gate(fault) => String::from_str(alloc, fault.code()),
+    }
+}
+
+/// The name of the state of the policy that was brought into its folder, or why it was not, after a space.
+fn policy_text(
+    alloc: Global,
+    policy: &Result<Option<KeptText>, PolicyFault>,
+) -> Result<String, AllocError>
+    ensures { IfOk result (λ text. IsPolicyText policy.now (string_bytes text)) }
+{
+    match policy {
+        Ok(Some(name)) => {
+            let name = name.as_str();
+            format!(in alloc; " POLICY {name}")
+        }
+        Ok(None) => Ok(String::new(alloc)),
+        Err(fault) => {
+            let reason = policy_fault_text(alloc, *fault)?;
+            format!(in alloc; " POLICY - {reason}")
+        }
+    }
+}
+
 /// Adds a field and a space.
-fn push_field(line: &mut Vec<u8>, text: &[u8]) -> Result<(), AllocError>
+pub fn push_field(line: &mut Vec<u8>, text: &[u8]) -> Result<(), AllocError>
     ensures { OnOk result (line.new.items ≡ line.old.items ++ field text.now) }
 {
     line.extend_from_slice(text)?;
     line.extend_from_slice(b" ")
 }
 
-fn status_text(alloc: Global, status: Option<u16>) -> Result<String, AllocError>
+pub fn status_text(alloc: Global, status: Option<u16>) -> Result<String, AllocError>
     ensures { IfOk result (λ text. string_bytes text ≡ status_text status) }
 {
     match status {
@@ -277,6 +337,8 @@ fn line_text(alloc: Global, entry: &LogEntry) -> Result<Vec<u8>, AllocError>
     let mut text = Vec::new(alloc);
     push_field(&mut text, time.as_str().as_bytes())?;
     push_fields(alloc, &mut text, entry)?;
+    let policy = policy_text(alloc, &entry.policy)?;
+    text.extend_from_slice(policy.as_str().as_bytes())?;
     Ok(text)
 }
 

@@ -1,5 +1,5 @@
 //! Commands as they were typed, without passwords.
-ghost use Rattle.std.specs.Prelude.{◌≡◌, ◌≤◌, ◌++◌, IfOk, length, take};
+ghost use Rattle.std.specs.Prelude.{◌≡◌, ◌≤◌, IfOk, length};
 ghost use Rattle.std.specs.List.{prefix_len};
 ghost use Rattle.opc_http_log.specs.Typed.{
   after_spaces,

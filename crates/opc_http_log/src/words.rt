@@ -39,7 +39,7 @@ fn request_words(alloc: Global, request: &Request) -> Result<Vec<u8>, AllocError
 }
 
 /// A text in quotes, not all of it if it is long.
-fn shown(alloc: Global, words: &[u8]) -> Result<Vec<u8>, AllocError>
+pub fn shown(alloc: Global, words: &[u8]) -> Result<Vec<u8>, AllocError>
     ensures { IfOk result (λ text. text.items ≡ shown words.now) }
 {
     if words.len() <= MOST {
@@ -51,7 +51,7 @@ fn shown(alloc: Global, words: &[u8]) -> Result<Vec<u8>, AllocError>
 }
 
 /// What is shown of a request.
-pub(crate) fn shown_request(alloc: Global, request: &Request) -> Result<Vec<u8>, AllocError>
+pub fn shown_request(alloc: Global, request: &Request) -> Result<Vec<u8>, AllocError>
     ensures { IfOk result (λ text. text.items ≡ shown (request_words request.now)) }
 {
     let words = request_words(alloc, request)?;

@@ -3,4 +3,4 @@
 
 mod body;
 pub mod response;
-mod status;
+pub mod status;

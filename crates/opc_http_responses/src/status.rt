@@ -56,7 +56,7 @@ fn fault_status(fault: &Fault) -> StatusCode
 }
 
 /// The status of an answer.
-pub(crate) fn status_of(answer: &Answer) -> StatusCode
+pub fn status_of(answer: &Answer) -> StatusCode
     ensures { result ≡ status_of answer.now }
 {
     match answer {

@@ -10,7 +10,7 @@ use Rattle.opc_http_log.proofs.laws.passwords_are_not_shown.Goals as goal
 told : (console one other : List ℕ) → typed one ≡ typed other → HaveOneLine (Command console one) (Command console other)
 told console one other same entry line is = record {
   text = is.text;
-  has = record { time = is.has.time; at = is.has.at; is = rw same at is.has.is };
+  has = record { time = is.has.time; policy = is.has.policy; at = is.has.at; kept = is.has.kept; is = rw same at is.has.is };
   is = is.is;
 }
 

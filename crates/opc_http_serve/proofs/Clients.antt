@@ -107,74 +107,88 @@ ended_anyhow link shuts (Err f) last gone same = same
 module _ {C K G D : Type 0} (link : Link C K) (shuts : C → Bool → Type 0) (origins : Origins) (made : Exchanged G)
     (accepts : D → Result (Option (C × C)) Error → D → Type 0) (clock_says : D → Result Duration Error → D → Type 0) (timer : K)
     (timeout : Option Duration) (first : D) (old : G) where
-  -- wherever they came from
-  module _ (comes : Result (Option (C × C)) Error → Type 0)
-      (seen : (a : D) (handles : Result (Option (C × C)) Error) (b : D) → accepts a handles b → comes handles) where
-    lost : (met last : D) → IsLost accepts met last → IsLost {D = ⊤} (λ _ handles _. comes handles) tt tt
-    lost met last (inl none) = inl (seen met (Ok None) last none)
-    lost met last (inr (error, failed, passes)) = inr (error, seen met (Err error) last failed, passes)
+  -- wherever they came from: `is` stays as they come
+  module _ (comes : Result (Option (C × C)) Error → Type 0) (is : D → Type 0)
+      (seen : (a : D) (handles : Result (Option (C × C)) Error) (b : D) → is a → accepts a handles b → comes handles × is b)
+      (dated : (a : D) (reading : Result Duration Error) (b : D) → is a → clock_says a reading b → is b) where
+    lost : (met last : D) → is met → IsLost accepts met last → IsLost {D = ⊤} (λ _ handles _. comes handles) tt tt × is last
+    lost met last there (inl none) = let at = seen met (Ok None) last there none in (inl at.0, at.1)
+    lost met last there (inr (error, failed, passes)) =
+        let at = seen met (Err error) last there failed in
+        (inr (error, at.0, passes), at.1)
 
-    turn_anywhere : (met last : D) (was new : G) → IsTurn link shuts origins (by_bytes made) accepts clock_says timer timeout met was last new
-        → IsTurn link (λ _ _. ⊤) origins (by_bytes made) {D = ⊤} (λ _ handles _. comes handles) (λ _ _ _. ⊤) timer timeout tt was tt new
-    turn_anywhere met last was new (inl client) = inl (record {
-      came = client.came;
-      gone = client.gone;
-      arrival = record {
-        reading = client.arrival.reading;
-        dated = record { mid = tt; accepted = seen met _ client.arrival.dated.mid client.arrival.dated.accepted; said = tt };
-        moment = client.arrival.moment;
-        due = client.arrival.due;
-        both = client.arrival.both;
-        read_by = client.arrival.read_by;
-        written_by = client.arrival.written_by;
-        reader_fine = client.arrival.reader_fine;
-        writer_fine = client.arrival.writer_fine;
-      };
-      served = record {
-        ended = client.served.ended;
-        made = client.served.made;
-        last = client.served.last;
-        read = client.served.read;
-        few = client.served.few;
-        drained = ended_anyhow link shuts client.served.ended _ _ client.served.drained;
-      };
-    })
-    turn_anywhere met last was new (inr (none, idle)) = inr (lost met last none, idle)
+    turn_anywhere : (met last : D) (was new : G) → is met
+        → IsTurn link shuts origins (by_bytes made) accepts clock_says timer timeout met was last new
+        → IsTurn link (λ _ _. ⊤) origins (by_bytes made) {D = ⊤} (λ _ handles _. comes handles) (λ _ _ _. ⊤) timer timeout tt was tt new × is last
+    turn_anywhere met last was new there (inl client) =
+        let dates = client.arrival.dated in
+        let at = seen met _ dates.mid there dates.accepted in (
+          inl (record {
+            came = client.came;
+            gone = client.gone;
+            arrival = record {
+              reading = client.arrival.reading;
+              dated = record { mid = tt; accepted = at.0; said = tt };
+              moment = client.arrival.moment;
+              due = client.arrival.due;
+              both = client.arrival.both;
+              read_by = client.arrival.read_by;
+              written_by = client.arrival.written_by;
+              reader_fine = client.arrival.reader_fine;
+              writer_fine = client.arrival.writer_fine;
+            };
+            served = record {
+              ended = client.served.ended;
+              made = client.served.made;
+              last = client.served.last;
+              read = client.served.read;
+              few = client.served.few;
+              drained = ended_anyhow link shuts client.served.ended _ _ client.served.drained;
+            };
+          }),
+          dated dates.mid _ last at.1 dates.said,
+        )
+    turn_anywhere met last was new there (inr (none, idle)) = let at = lost met last there none in (inr (at.0, idle), at.1)
 
-    anyhow : (n : ℕ) (last : D) (new : G) → AreServed link shuts origins (by_bytes made) accepts clock_says timer timeout first old n last new
-        → ServesAll link origins made comes timer timeout old n new
-    anyhow zero last new are = (refl, are.1)
-    anyhow (suc n) last new (met, was, are, turn) = (tt, was, anyhow n met was are, turn_anywhere met last was new turn)
+    anyhow : (n : ℕ) (last : D) (new : G) → is first
+        → AreServed link shuts origins (by_bytes made) accepts clock_says timer timeout first old n last new
+        → ServesAll link origins made comes timer timeout old n new × is last
+    anyhow zero last new there are = ((refl, are.1), subst is (sym are.0) there)
+    anyhow (suc n) last new there (met, was, are, turn) =
+        let before = anyhow n met was there are in
+        let one = turn_anywhere met last was new before.1 turn in
+        ((tt, was, before.0, one.0), one.1)
 
-    none_came : (f : ServeFault) (met last : D) → Arrives accepts clock_says link.shows timer timeout met (Err f) last
+    none_came : (f : ServeFault) (met last : D) → is met → Arrives accepts clock_says link.shows timer timeout met (Err f) last
         → Arrives {D = ⊤} (λ _ handles _. comes handles) (λ _ _ _. ⊤) link.shows timer timeout tt (Err f) tt
-    none_came (why.Accept error) met last (failed, lasting) = (seen met (Err error) last failed, lasting)
-    none_came (why.Clock error) met last (inl h) = inl (record {
+    none_came (why.Accept error) met last there (failed, lasting) = ((seen met (Err error) last there failed).0, lasting)
+    none_came (why.Clock error) met last there (inl h) = inl (record {
       reader = h.reader;
       writer = h.writer;
-      accepted = seen met _ last h.accepted;
+      accepted = (seen met _ last there h.accepted).0;
       failed = h.failed;
     })
-    none_came (why.Clock error) met last (inr h) = inr (record {
+    none_came (why.Clock error) met last there (inr h) = inr (record {
       reader = h.reader;
       writer = h.writer;
       reading = h.reading;
-      dated = record { mid = tt; accepted = seen met _ h.dated.mid h.dated.accepted; said = tt };
+      dated = record { mid = tt; accepted = (seen met _ h.dated.mid there h.dated.accepted).0; said = tt };
       failed = h.failed;
     })
 
-    pub from_anywhere : {A : Type 0} (count : ℕ) (last : D) (new : G) (end : Result A ServeFault)
+    pub from_anywhere : {A : Type 0} (count : ℕ) (last : D) (new : G) (end : Result A ServeFault) → is first
         → OnOk end (AreServed link shuts origins (by_bytes made) accepts clock_says timer timeout first old count last new)
         → IfErr end (λ f. IsCutShort link shuts origins (by_bytes made) accepts clock_says timer timeout first old count f last new)
         → ServesClients link origins made comes timer timeout old count end new
-    from_anywhere count last new (Ok a) are cut = anyhow count last new are
-    from_anywhere count last new (Err f) are cut = record {
-      done = cut.done;
-      fewer = cut.fewer;
-      met = tt;
-      served = anyhow cut.done cut.met new cut.served;
-      failed = none_came f cut.met last cut.failed;
-    }
+    from_anywhere count last new (Ok a) there are cut = (anyhow count last new there are).0
+    from_anywhere count last new (Err f) there are cut =
+        let some = anyhow cut.done cut.met new there cut.served in record {
+          done = cut.done;
+          fewer = cut.fewer;
+          met = tt;
+          served = some.0;
+          failed = none_came f cut.met last some.1 cut.failed;
+        }
 
 module _ {T : Type 0} (m : Meaning T) where
   begins : (now : T) → IsRunOf m now now none_handled
@@ -313,32 +327,37 @@ module _ (origins : Origins) {T : Type 0} (m : Meaning T) where
           let more = turn met last old was new before.0 one before.2 in
           (more.0, (met, before.0, before.1, more.1), more.2, λ sure. before.3 (more.3 sure))
 
-      module _ (comes : Result (Option (C × C)) Error → Type 0)
-          (seen : (a : D) (handles : Result (Option (C × C)) Error) (b : D) → accepts a handles b → comes handles)
+      module _ (comes : Result (Option (C × C)) Error → Type 0) (is : D → Type 0)
+          (seen : (a : D) (handles : Result (Option (C × C)) Error) (b : D) → is a → accepts a handles b → comes handles × is b)
+          (dated : (a : D) (reading : Result Duration Error) (b : D) → is a → clock_says a reading b → is b)
           {A : Type 0} (count : ℕ) (last : D) (new : T) where
-        pub all_handled : (end : Result A ServeFault)
+        pub all_handled : (end : Result A ServeFault) → is first
             → OnOk end (AreServed link shuts origins (by_bytes (IsExchange origins m)) accepts clock_says timer timeout first old count last new)
             → IfErr end (λ f. IsCutShort link shuts origins (by_bytes (IsExchange origins m)) accepts clock_says timer timeout first old count f last new)
             → AreHandled origins m link comes timeout old new count end
-        all_handled (Ok a) are cut =
+        all_handled (Ok a) there are cut =
             let h = handled_for count last new are in record {
               handled = h.0;
               timer = timer;
-              served = anyhow link shuts origins (IsConversation origins) accepts clock_says timer timeout first none_handled comes seen count last h.0 h.1;
+              served =
+                  (anyhow link shuts origins (IsConversation origins) accepts clock_says timer timeout first none_handled comes is seen dated
+                  count last h.0 there h.1).0;
               run = h.2;
             }
-        all_handled (Err f) are cut =
-            let h = handled_for cut.done cut.met new cut.served in record {
+        all_handled (Err f) there are cut =
+            let h = handled_for cut.done cut.met new cut.served in
+            let some = anyhow link shuts origins (IsConversation origins) accepts clock_says timer timeout first none_handled comes is seen
+            dated cut.done cut.met h.0 there h.1 in record {
               handled = h.0;
               timer = timer;
               served = record {
                 done = cut.done;
                 fewer = cut.fewer;
                 met = tt;
-                served = anyhow link shuts origins (IsConversation origins) accepts clock_says timer timeout first none_handled comes seen cut.done cut.met h.0 h.1;
+                served = some.0;
                 failed =
-                    none_came link shuts origins (IsConversation origins) accepts clock_says timer timeout first none_handled comes seen f cut.met
-                    last cut.failed;
+                    none_came link shuts origins (IsConversation origins) accepts clock_says timer timeout first none_handled comes is seen
+                    dated f cut.met last some.1 cut.failed;
               };
               run = h.2;
             }

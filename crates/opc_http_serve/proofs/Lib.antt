@@ -1,4 +1,5 @@
 pub mod Clients
+pub mod Coming
 pub mod Held
 pub mod Logged
 pub mod Projecting

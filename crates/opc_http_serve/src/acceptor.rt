@@ -1,6 +1,6 @@
 //! The acceptor of the program: a listener and a clock.
-ghost use Rattle.std.specs.Prelude.{⊤};
-ghost use Rattle.opc_http_connections.specs.Links.{Comes};
+ghost use Rattle.std.specs.Prelude.{◌≡◌};
+ghost use Rattle.opc_http_serve.specs.Coming.{ComesTo};
 
 use crate::arrivals::Arrivals;
 use opc_http_connections::connection::Connection;
@@ -17,9 +17,9 @@ pub struct Acceptor<'a, H: Clock, L: ClientListener> {
 }
 
 impl<'a, H: Clock, L: ClientListener> Acceptor<'a, H, L> {
-    // The fields are private, and the ghosts below state nothing about them, so there is nothing that a clause could
-    // state.
-    pub fn new(clock: &'a H, listener: &'a L) -> Self {
+    pub fn new(clock: &'a H, listener: &'a L) -> Self
+        ensures { result.listener.now ≡ listener.now }
+    {
         Acceptor { clock, listener }
     }
 }
@@ -27,9 +27,10 @@ impl<'a, H: Clock, L: ClientListener> Acceptor<'a, H, L> {
 impl<H: Clock, L: ClientListener> Arrivals for Acceptor<'_, H, L> {
     type Connection = L::Client;
 
-    ghost accepts = { λ _ handles _. Comes L.accepts L.Client.clones handles };
+    ghost accepts = { λ before handles after. ComesTo L.accepts L.Client.clones before.listener.now handles
+        × (after.listener.now ≡ before.listener.now) };
 
-    ghost clock_says = { λ _ _ _. ⊤ };
+    ghost clock_says = { λ before _ after. after.listener.now ≡ before.listener.now };
 
     fn accept(&mut self) -> io::Result<Option<(L::Client, L::Client)>> {
         // One handle to read and one to write. Each is owned, so the clauses of `Read` and `Write` state what was read

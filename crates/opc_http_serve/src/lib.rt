@@ -7,5 +7,6 @@ pub mod arrivals;
 pub mod clock;
 pub mod exchanges;
 pub mod passing;
+pub mod policies;
 pub mod service;
 pub mod serving;

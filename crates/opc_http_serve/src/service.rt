@@ -5,21 +5,63 @@ ghost use Rattle.opc_io.specs.Writes.{AppendsPrefix};
 ghost use Rattle.opc_http_serve.specs.Logging.{IsLineWritten, IsLogged, IsServiceExchange};
 
 use crate::exchanges::Exchanges;
+use crate::policies;
+use crate::policies::PolicyFolder;
+use opc_board::text::KeptText;
 use opc_gate::gate::Gate;
+use opc_http::trail::Trail;
 use opc_http::{LinkFault, Served, exchange_told};
 use opc_http_log::entry::LogEntry;
 use opc_http_log::line::log_line;
 use opc_http_requests::routes::Routes;
 use opc_io::sink::{Sink, write_whole};
 use opc_io::source::Source;
+use opc_machine::request::{Answer, Request};
+use opc_policy_folder::fault::PolicyFault;
+use opc_policy_folder::folder::Folder;
 use opc_state::tables::Tables;
 use std::alloc::Global;
 
-/// A gate, and where its exchanges are logged, if anywhere.
+/// Where exchanges are logged, and the folder into which the policy is brought, if any.
 #[derive(Drop)]
-pub struct Service<T: Tables, K> {
-    pub gate: Gate<T>,
+pub struct ServiceTrail<'a, K, N> {
     pub log: Option<K>,
+    pub folder: Option<PolicyFolder<'a, N>>,
+}
+
+/// A gate, and what follows its exchanges.
+#[derive(Drop)]
+pub struct Service<'a, T: Tables, K, N> {
+    pub gate: Gate<T>,
+    pub trail: ServiceTrail<'a, K, N>,
+}
+
+impl<L: Sink, N: Folder> Trail for ServiceTrail<'_, L, N> {
+    ghost use Rattle.std.specs.Prelude.{◌≡◌, is_some};
+    ghost use Rattle.opc_http_serve.specs.Policies.{IsPolicyKept};
+
+    ghost tells = { λ trail. is_some trail.log };
+
+    ghost follows = { λ old s moment request answer _ policy new. IsPolicyKept N.holds N.writes N.publishes s moment
+        request answer policy old.folder new.folder };
+
+    ghost stays = { λ old new. new.log ≡ old.log };
+
+    fn is_told(&self) -> bool {
+        self.log.is_some()
+    }
+
+    fn follow<T: Tables, K: Sink>(
+        &mut self,
+        alloc: Global,
+        gate: &mut Gate<T>,
+        _sink: &K,
+        moment: u64,
+        request: &Request,
+        answer: &Answer,
+    ) -> Result<Option<KeptText>, PolicyFault> {
+        policies::follow(alloc, gate, &mut self.folder, moment, request, answer)
+    }
 }
 
 /// Writes to a log. Nothing but the log depends on it: if a write fails, the line is cut.
@@ -50,9 +92,9 @@ fn write_entry<K: Sink>(alloc: Global, log: &mut Option<K>, entry: &Option<LogEn
     }
 }
 
-impl<T: Tables, L: Sink> Exchanges for Service<T, L> {
+impl<T: Tables, L: Sink, N: Folder> Exchanges for Service<'_, T, L, N> {
     ghost exchanged = { λ origins old left moment _ held before after result new. IsServiceExchange L.held L.has_failed
-        origins T.meaning old left moment (held before) (held after) result new };
+        N.holds N.writes N.publishes origins T.meaning old left moment (held before) (held after) result new };
 
     fn serve_one<S: Source, K: Sink>(
         &mut self,
@@ -62,7 +104,6 @@ impl<T: Tables, L: Sink> Exchanges for Service<T, L> {
         sink: &mut K,
         moment: u64,
     ) -> Result<Served, LinkFault> {
-        let is_logged = self.log.is_some();
         let exchanged = exchange_told(
             alloc,
             routes,
@@ -70,9 +111,9 @@ impl<T: Tables, L: Sink> Exchanges for Service<T, L> {
             sink,
             &mut self.gate,
             moment,
-            is_logged,
+            &mut self.trail,
         );
-        write_entry(alloc, &mut self.log, &exchanged.entry);
+        write_entry(alloc, &mut self.trail.log, &exchanged.entry);
         exchanged.served
     }
 }

@@ -1,7 +1,8 @@
 //! Clients served one after another.
 ghost use Rattle.std.specs.Prelude.{◌≡◌, Err, IfErr, OnErr, OnOk, false};
-ghost use Rattle.opc_http_connections.specs.Links.{Comes, link_of};
+ghost use Rattle.opc_http_connections.specs.Links.{link_of};
 ghost use Rattle.opc_http_serve.specs.Arriving.{Arrives};
+ghost use Rattle.opc_http_serve.specs.Coming.{ComesTo};
 ghost use Rattle.opc_http_serve.specs.Handled.{AreHandled, IsExchange};
 ghost use Rattle.opc_http_serve.specs.Logging.{IsServiceExchange};
 ghost use Rattle.opc_http_serve.specs.Serving.{AreServed, IsCutShort, IsClientServed, IsTurn, ServesClients};
@@ -18,6 +19,7 @@ use opc_http_connections::listener::ClientListener;
 use opc_http_connections::timer::Timer;
 use opc_http_requests::routes::Routes;
 use opc_io::sink::Sink;
+use opc_policy_folder::folder::Folder;
 use opc_state::tables::Tables;
 use std::alloc::Global;
 use std::rt::Clock;
@@ -106,10 +108,10 @@ pub fn serve_on<H: AllocGlobal + Clock, L: ClientListener, T: Tables>(
     ensures sure { T.meaning.is_sure gate.new → T.meaning.is_sure gate.old }
     ensures handled { AreHandled routes.now T.meaning
         (link_of L.Client.limits ⟦<H as Timer>⟧.shows L.Client.reads L.Client.remaining L.Client.contents)
-        (Comes L.accepts L.Client.clones) timeout gate.old gate.new count result }
+        (ComesTo L.accepts L.Client.clones listener.now) timeout gate.old gate.new count result }
     ensures served { ServesClients
         (link_of L.Client.limits ⟦<H as Timer>⟧.shows L.Client.reads L.Client.remaining L.Client.contents)
-        routes.now (IsExchange routes.now T.meaning) (Comes L.accepts L.Client.clones) rt.now timeout gate.old count
+        routes.now (IsExchange routes.now T.meaning) (ComesTo L.accepts L.Client.clones listener.now) rt.now timeout gate.old count
         result gate.new }
 {
     let mut acceptor = Acceptor::new(rt, listener);
@@ -117,22 +119,22 @@ pub fn serve_on<H: AllocGlobal + Clock, L: ClientListener, T: Tables>(
 }
 
 /// Serves this many clients that come to a listener, and logs each exchange, if that is requested.
-pub fn serve_logged_on<H: AllocGlobal + Clock, L: ClientListener, T: Tables, K: Sink>(
+pub fn serve_logged_on<H: AllocGlobal + Clock, L: ClientListener, T: Tables, K: Sink, N: Folder>(
     rt: &H,
     listener: &L,
     count: u32,
     timeout: Option<Duration>,
     routes: &Routes,
-    service: &mut Service<T, K>,
+    service: &mut Service<'_, T, K, N>,
 ) -> Result<(), ServeFault>
     ensures sure { T.meaning.is_sure service.new.gate → T.meaning.is_sure service.old.gate }
     ensures handled { AreHandled routes.now T.meaning
         (link_of L.Client.limits ⟦<H as Timer>⟧.shows L.Client.reads L.Client.remaining L.Client.contents)
-        (Comes L.accepts L.Client.clones) timeout service.old.gate service.new.gate count result }
+        (ComesTo L.accepts L.Client.clones listener.now) timeout service.old.gate service.new.gate count result }
     ensures served { ServesClients
         (link_of L.Client.limits ⟦<H as Timer>⟧.shows L.Client.reads L.Client.remaining L.Client.contents)
-        routes.now (IsServiceExchange K.held K.has_failed routes.now T.meaning) (Comes L.accepts L.Client.clones) rt.now
-        timeout service.old count result service.new }
+        routes.now (IsServiceExchange K.held K.has_failed N.holds N.writes N.publishes routes.now T.meaning)
+        (ComesTo L.accepts L.Client.clones listener.now) rt.now timeout service.old count result service.new }
 {
     let mut acceptor = Acceptor::new(rt, listener);
     serve(

@@ -1,4 +1,6 @@
+use Rattle.std.proofs.Common.{◌≡◌}
 use Rattle.opc_http_serve.proofs.Clients.{all_handled, from_anywhere, sure}
+use Rattle.opc_http_serve.proofs.Coming.{comes_there, stays_there}
 use Rattle.opc_http_serve.specs.Handled.{IsExchange}
 use Rattle.opc_http_serve.proofs.serving.serve_on.Goals as goal
 
@@ -7,9 +9,16 @@ returns-clause-sure g c = sure c.args.routes.now g.T.Tables.meaning _ _ _ _ _ _ 
     c.serve.ensures.ended
 
 pub returns-clause-handled : goal.returns-clause-handled
-returns-clause-handled g c = all_handled c.args.routes.now g.T.Tables.meaning _ _ _ _ _ _ _ _ _ (λ a handles b seen. seen) _ _ _
-    c.serve.result c.serve.ensures.done c.serve.ensures.ended
+returns-clause-handled g c =
+    let listener = c.args.listener.now in
+    all_handled _ g.T.Tables.meaning _ _ _ _ c.args.rt.now c.args.timeout c.new-acceptor.result _ _ (λ a. a.listener.now ≡ listener)
+    (comes_there (λ a. a.listener.now) listener g.L.ClientListener.accepts g.L.Client.Connection.clones) (stays_there (λ a. a.listener.now) listener) _ _ _
+    c.serve.result c.new-acceptor.ensures c.serve.ensures.done c.serve.ensures.ended
 
 pub returns-clause-served : goal.returns-clause-served
-returns-clause-served g c = from_anywhere _ _ _ (IsExchange c.args.routes.now g.T.Tables.meaning) _ _ _ _ _ _ _
-    (λ a handles b seen. seen) _ _ _ c.serve.result c.serve.ensures.done c.serve.ensures.ended
+returns-clause-served g c =
+    let listener = c.args.listener.now in
+    from_anywhere _ _ _ (IsExchange c.args.routes.now g.T.Tables.meaning) _ _ c.args.rt.now c.args.timeout c.new-acceptor.result _ _
+    (λ a. a.listener.now ≡ listener)
+    (comes_there (λ a. a.listener.now) listener g.L.ClientListener.accepts g.L.Client.Connection.clones) (stays_there (λ a. a.listener.now) listener) _ _ _
+    c.serve.result c.new-acceptor.ensures c.serve.ensures.done c.serve.ensures.ended

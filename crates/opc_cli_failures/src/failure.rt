@@ -18,6 +18,8 @@ pub struct Paths<'a> {
     pub database: Option<&'a str>,
     pub policy: Option<&'a str>,
     pub socket: Option<&'a str>,
+    pub log: Option<&'a str>,
+    pub policies: Option<&'a str>,
 }
 
 /// No file is named.
@@ -25,6 +27,8 @@ pub const NO_PATHS: Paths<'static> = Paths {
     database: None,
     policy: None,
     socket: None,
+    log: None,
+    policies: None,
 };
 
 /// What the program reads, writes or opens.
@@ -43,8 +47,12 @@ pub enum Place {
     Connection,
     /// A console, at which a request is made.
     Console(Subject),
-    /// The script on the input.
+    /// A script: the file that is named, or else the input.
     Script,
+    /// The file of a log.
+    Log,
+    /// The folder into which a policy is brought.
+    Policies,
 }
 
 /// A fault, and what failed and why, if that is known.

@@ -116,6 +116,8 @@ fn kind_of(place: Place, reason: &Reason) -> &'static str {
         Place::Connection => "connection",
         Place::Console(_) => "console ",
         Place::Script => "script",
+        Place::Log => "log ",
+        Place::Policies => "policies ",
     }
 }
 
@@ -125,6 +127,8 @@ fn path_of<'a>(place: &'a Place, paths: &Paths<'a>) -> &'a str {
         Place::PolicyFile => paths.policy.unwrap_or(""),
         Place::Database => paths.database.unwrap_or(""),
         Place::Socket => paths.socket.unwrap_or(""),
+        Place::Log => paths.log.unwrap_or(""),
+        Place::Policies => paths.policies.unwrap_or(""),
         Place::Console(name) => name.text(),
         // No other place has a path or a name.
         _ => "",

@@ -5,8 +5,7 @@ ghost use Rattle.opc_cli_failures.specs.Printing.{IsReported};
 ghost use Rattle.opc_cli_failures.specs.Statuses.{status_of_end};
 ghost use Rattle.opc_cli_questions.specs.EmptyRoom.{IsEmptyRoomNoted, empty_room_line};
 
-use crate::policy_file::paths_of;
-use opc_cli_failures::failure::Failure;
+use opc_cli_failures::failure::{Failure, Paths};
 use opc_cli_failures::status::Status;
 use opc_io::sink::{Sink, WriteFault, write_whole};
 
@@ -39,20 +38,20 @@ fn note_empty_room<K: Sink>(policy: Option<&str>, status: Status, errors: &mut K
 /// no console without a policy.
 pub fn reported_in_memory<K: Sink>(
     end: Result<Status, Failure>,
-    policy: Option<&str>,
+    paths: &Paths<'_>,
     errors: &mut K,
 ) -> Status
     ensures status { result ≡ status_of_end end }
     ensures reported { IfErr end (λ failure. K.has_failed errors.new ≡ false
         → IsReported failure.fault (K.held errors.old) (K.held errors.new)) }
-    ensures explained { IfOk end (IsEmptyRoomNoted K.held K.has_failed errors.old errors.new policy.entry) }
+    ensures explained { IfOk end (IsEmptyRoomNoted K.held K.has_failed errors.old errors.new paths.now.policy) }
     ensures kept { K.has_failed errors.new ≡ false → K.has_failed errors.old ≡ false }
 {
     match end {
         Ok(status) => {
-            note_empty_room(policy, status, errors);
+            note_empty_room(paths.policy, status, errors);
             status
         }
-        Err(failure) => failure.report(&paths_of(policy), errors),
+        Err(failure) => failure.report(paths, errors),
     }
 }

@@ -193,5 +193,7 @@ pub fn paths_of<'a>(policy: Option<&'a str>) -> Paths<'a> {
         database: None,
         policy,
         socket: None,
+        log: None,
+        policies: None,
     }
 }

@@ -17,6 +17,8 @@ pub enum Task<'a> {
     InMemory {
         policy: Option<&'a str>,
         lines: Lines<'a>,
+        /// Each request is logged in the file at this path.
+        log: Option<&'a str>,
     },
     /// The digest of the password on the input is printed.
     Digest,

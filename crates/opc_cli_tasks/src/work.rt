@@ -40,6 +40,8 @@ pub struct Serve<'a> {
     pub strict: bool,
     /// Each exchange is logged.
     pub log: bool,
+    /// The folder at this path gets each state of the policy.
+    pub policies: Option<&'a str>,
 }
 
 /// An operation over tables.
@@ -49,6 +51,8 @@ pub enum Work<'a> {
     Run {
         policy: Option<&'a str>,
         lines: Lines<'a>,
+        /// Each request is logged in the file at this path.
+        log: Option<&'a str>,
     },
     /// A policy file is put into the tables, at the time of the clock.
     Import(Import<'a>),

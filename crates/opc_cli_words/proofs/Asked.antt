@@ -126,8 +126,8 @@ module _ (one other : List ℕ → Option (List ℕ)) (same : (name : List ℕ) 
   answered (Script file) is = (sym (set (codes "now")) ∙ is.0, is.1 ∙ same (codes "file"))
   answered (Now console) is = (sym (set (codes "now")) ∙ is.0, is.1 ∙ same (codes "console"))
 
-  run : (policy : Option (Bor (List ℕ))) (l : Lines) → IsRun one policy l → IsRun other policy l
-  run policy l is = (is.0 ∙ same (codes "policy"), answered l is.1)
+  run : (policy : Option (Bor (List ℕ))) (l : Lines) (log : Option (Bor (List ℕ))) → IsRun one policy l log → IsRun other policy l log
+  run policy l log is = (is.0 ∙ same (codes "policy"), answered l is.1, is.2 ∙ same (codes "log"))
 
   import : (i : Import) → IsImport one i → IsImport other i
   import i is = record {
@@ -143,6 +143,7 @@ module _ (one other : List ℕ → Option (List ℕ)) (same : (name : List ℕ) 
     waits = of_given (λ (text : List ℕ). option_map longest (number_between 0 3_600 text)) (codes "timeout") ∙ is.waits;
     strict = is.strict ∙ set (codes "strict");
     log = is.log ∙ set (codes "log");
+    policies = is.policies ∙ same (codes "policies");
   }
 
   first : (f : First) → IsFirst (one (codes "from")) (one (codes "last")) f → IsFirst (other (codes "from")) (other (codes "last")) f
@@ -176,11 +177,11 @@ module _ (one other : List ℕ → Option (List ℕ)) (same : (name : List ℕ) 
   task_is command (task.Ask s (question.Ask a)) is = ask command s a is
   task_is command (task.Ask s (question.Check p)) is = (is.0, policy_check s p is.1)
   task_is command (task.Account path q) is = (is.0, is.1 ∙ given (codes "db"), account q is.2)
-  task_is command (task.Work path (work.Run policy l)) is = (is.0, sym (same (codes "db")) ∙ is.1, run policy l is.2)
+  task_is command (task.Work path (work.Run policy l log)) is = (is.0, sym (same (codes "db")) ∙ is.1, run policy l log is.2)
   task_is command (task.Work path (work.Import i)) is = (is.0, is.1 ∙ given (codes "db"), import i is.2)
   task_is command (task.Work path work.Export) is = (is.0, is.1 ∙ given (codes "db"))
   task_is command (task.Work path (work.Serve s)) is = (is.0, is.1 ∙ given (codes "db"), service s is.2)
-  task_is command (task.InMemory policy l) is = (is.0, sym (same (codes "db")) ∙ is.1, run policy l is.2)
+  task_is command (task.InMemory policy l log) is = (is.0, sym (same (codes "db")) ∙ is.1, run policy l log is.2)
   task_is command task.Digest is = is
   task_is command task.Commands is = is
 

@@ -46,7 +46,7 @@ explain_options = needed (codes "user") ∷ question_options ++ flag (codes "why
 abbrev pub run_options : List Rule
 run_options =
     valued (codes "db") ∷ valued (codes "policy") ∷ flag (codes "now") ∷ valued (codes "console")
-    ∷ positional (codes "file") ∷ []
+    ∷ valued (codes "log") ∷ positional (codes "file") ∷ []
 
 abbrev pub import_options : List Rule
 import_options =
@@ -62,7 +62,8 @@ address_options =
 abbrev pub serve_options : List Rule
 serve_options =
     needed (codes "db") ∷ address_options
-    ++ preset (codes "count") (codes "1000000") ∷ preset (codes "timeout") (codes "30") ∷ flag (codes "log") ∷ []
+    ++ preset (codes "count") (codes "1000000") ∷ preset (codes "timeout") (codes "30") ∷ flag (codes "log")
+    ∷ valued (codes "policies") ∷ []
 
 abbrev pub who_options : List Rule
 who_options = question_options ++ flag (codes "allowed") ∷ source_options

@@ -217,6 +217,7 @@ module _ (value : List ℕ → Option (List ℕ)) where
     pub waits : IsWait serve.timeout
     pub strict : serve.strict ≡ is_set (codes "strict")
     pub log : serve.log ≡ is_set (codes "log")
+    pub policies : option_copied serve.policies ≡ value (codes "policies")
 
   -- and of `check`
   pub record IsPolicyCheck (source : PolicySource) (check : PolicyCheck) : Type 0 where

@@ -33,5 +33,6 @@ module _ (value : List ℕ → Option (List ℕ)) where
   IsLines (Now console) = (is_set value (codes "now") ≡ true) × (console ≡ value (codes "console"))
 
   -- the arguments of `run`
-  abbrev pub IsRun : (policy : Option (Bor (List ℕ))) → Lines → Type 0
-  IsRun policy lines = (option_copied policy ≡ value (codes "policy")) × IsLines lines
+  abbrev pub IsRun : (policy : Option (Bor (List ℕ))) → Lines → (log : Option (Bor (List ℕ))) → Type 0
+  IsRun policy lines log =
+      (option_copied policy ≡ value (codes "policy")) × IsLines lines × (option_copied log ≡ value (codes "log"))

@@ -62,16 +62,16 @@ module _ (value : List ℕ → Option (List ℕ)) where
       (command ≡ codes "check") × IsPolicyCheck value source check
   IsTaskOf command (task.Account path asked) =
       (command ≡ codes "account") × (path.now ≡ given value (codes "db")) × IsAccount value asked
-  IsTaskOf command (task.Work path (work.Run policy lines)) =
-      (command ≡ codes "run") × (value (codes "db") ≡ Some path.now) × IsRun value policy lines
+  IsTaskOf command (task.Work path (work.Run policy lines log)) =
+      (command ≡ codes "run") × (value (codes "db") ≡ Some path.now) × IsRun value policy lines log
   IsTaskOf command (task.Work path (work.Import import)) =
       (command ≡ codes "import") × (path.now ≡ given value (codes "db")) × IsImport value import
   IsTaskOf command (task.Work path work.Export) =
       (command ≡ codes "export") × (path.now ≡ given value (codes "db"))
   IsTaskOf command (task.Work path (work.Serve serve)) =
       (command ≡ codes "serve") × (path.now ≡ given value (codes "db")) × IsService value serve
-  IsTaskOf command (task.InMemory policy lines) =
-      (command ≡ codes "run") × (value (codes "db") ≡ None) × IsRun value policy lines
+  IsTaskOf command (task.InMemory policy lines log) =
+      (command ≡ codes "run") × (value (codes "db") ≡ None) × IsRun value policy lines log
   IsTaskOf command task.Digest = command ≡ codes "digest"
   IsTaskOf command task.Commands = command ≡ codes "commands"
 

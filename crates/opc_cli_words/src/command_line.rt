@@ -177,6 +177,13 @@ fn run_command<'a>(alloc: Global) -> Result<Command<'a>, AllocError>
             "With --now: each line is a command, typed at\n\
              this console",
         ))?
+        .arg(value(
+            alloc,
+            "log",
+            "FILE",
+            "Adds a line for each request to this file:\n\
+             when, where, who, what, and the outcome",
+        ))?
         .arg(positional(alloc, "file", "FILE", SCRIPT_FILE))
 }
 
@@ -302,6 +309,13 @@ fn serve_command<'a>(alloc: Global) -> Result<Command<'a>, AllocError>
             "log",
             "Writes a line for each exchange to standard\n\
              error: when, where, who, what, and the outcome",
+        ))?
+        .arg(value(
+            alloc,
+            "policies",
+            "FOLDER",
+            "Keeps the policy there as current.csv, and each\n\
+             state of it under its time and its SHA-256",
         ))
 }
 

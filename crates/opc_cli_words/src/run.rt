@@ -36,9 +36,10 @@ pub(crate) fn run<'a>(chosen: &ArgMatches<'a>) -> Result<Task<'a>, Mistake>
     match lines_in(chosen) {
         Ok(lines) => {
             let policy = chosen.get_str("policy");
+            let log = chosen.get_str("log");
             match chosen.get_str("db") {
-                Some(path) => Ok(Task::Work(path, Work::Run { policy, lines })),
-                None => Ok(Task::InMemory { policy, lines }),
+                Some(path) => Ok(Task::Work(path, Work::Run { policy, lines, log })),
+                None => Ok(Task::InMemory { policy, lines, log }),
             }
         }
         Err(mistake) => Err(mistake),

@@ -159,6 +159,7 @@ pub(crate) fn serve<'a>(chosen: &ArgMatches<'a>) -> Result<Task<'a>, Mistake>
         timeout,
         strict,
         log: is_set(chosen, "log"),
+        policies: chosen.get_str("policies"),
     };
     Ok(Task::Work(database_in(chosen), Work::Serve(serve)))
 }

@@ -8,4 +8,5 @@ returns c =
     let option_2 = one_option_more _ _ _ _ _ _ option_1 c.value-2.ensures.rule c.value-2.ensures.alone c.in_ok-arg-2.ensures in
     let option_3 = one_option_more _ _ _ _ _ _ option_2 c.flag.ensures.rule c.flag.ensures.alone c.in_ok-arg-3.ensures in
     let option_4 = one_option_more _ _ _ _ _ _ option_3 c.value-3.ensures.rule c.value-3.ensures.alone c.in_ok-arg-4.ensures in
-    IfOk-weaker c.arg-5.result _ _ (λ built. one_option_more _ built _ _ _ _ option_4 c.positional.ensures.rule c.positional.ensures.alone) c.arg-5.ensures
+    let option_5 = one_option_more _ _ _ _ _ _ option_4 c.value-4.ensures.rule c.value-4.ensures.alone c.in_ok-arg-5.ensures in
+    IfOk-weaker c.arg-6.result _ _ (λ built. one_option_more _ built _ _ _ _ option_5 c.positional.ensures.rule c.positional.ensures.alone) c.arg-6.ensures

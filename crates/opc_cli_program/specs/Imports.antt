@@ -28,9 +28,7 @@ use Rattle.std.specs.List.{flat_map}
 use Rattle.opc_terms.specs.declared.fault.Fault.TheVariants.{NoMemory, Store}
 use Rattle.opc_policy_members.specs.declared.row.Row.{Row}
 use Rattle.opc_board.specs.declared.line.Line.{Line}
-use Rattle.opc_import.specs.Lines.{policy_text}
 use Rattle.opc_state.specs.Meaning.{Meaning}
-use Rattle.opc_state.specs.PolicyFile.{rows_of}
 use Rattle.opc_state.specs.State.{State}
 use Rattle.opc_machine.specs.declared.request.Answer.{Answer}
 use Rattle.opc_machine.specs.declared.request.Answer.TheVariants as answer
@@ -38,6 +36,7 @@ use Rattle.opc_machine.specs.Bootstrap.{bootstrapped}
 use Rattle.opc_machine.specs.Inputs.{Input, Import as ImportOf}
 use Rattle.opc_gate.specs.Handling.{IsHandled, LeavesAsBefore}
 use Rattle.opc_gate.specs.RowEdits.{HaveNothingNew, IsBootstrap}
+use Rattle.opc_http_serve.specs.Policies.{export_of}
 use Rattle.opc_cli_failures.specs.declared.status.Status.{Status}
 use Rattle.opc_cli_failures.specs.declared.status.Status.TheVariants.{Done}
 use Rattle.opc_cli_failures.specs.declared.failure.Failure.{Failure}
@@ -73,10 +72,6 @@ IsReported held has_failed (answer.Done lines rule) before written end =
     × FailsAsWritten has_failed before written end
 IsReported held has_failed (answer.Refused fault rule) before written end =
     IsErrAnd end (λ failure. failure.fault ≡ fault) × (written ≡ before)
-
--- the text of the policy file of a state
-abbrev pub exported : State → List ℕ
-exported s = policy_text (rows_of s.policy s.board.consoles)
 
 module _ {T : Type 0} (m : Meaning T) (old new : T)
     (end : Result Status Failure) where
@@ -132,5 +127,5 @@ module _ {T : Type 0} (m : Meaning T) (old new : T)
     pub record IsExport : Type 0 where
       pub ends : IsEnded end
       pub text : m.is_sure new → (s : State) → m.represents old s
-          → IsWritten (exported s) (held before) (held written) end
+          → IsWritten (export_of s) (held before) (held written) end
       pub output : (IsErr end × (written ≡ before)) ⊎ FailsAsWritten has_failed before written end

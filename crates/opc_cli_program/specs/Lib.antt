@@ -1,6 +1,9 @@
 pub mod Runs
 pub mod Lines
+pub mod Logging
 pub mod Listening
+pub mod ServiceLogs
+pub mod ServicePolicies
 pub mod Services
 pub mod Refusals
 pub mod Imports

@@ -28,9 +28,9 @@ module _ {P L : Type 0} (binds : P → SocketAddr → L → Type 0) (is_at : P �
     pub at : is_at ports listener given
     pub port_is : socket_port given ≡ port
 
-  -- A listener was bound to the requested port, and the output states at which it is.
-  abbrev pub ListensAt : (before after : Option (List ℕ)) → (asked port : ℕ) → Type 0
-  ListensAt before after asked port = ((listener : L) × IsListening asked listener port)
+  -- It was, and the output states at which port it is.
+  abbrev pub ListensAt : (before after : Option (List ℕ)) → (asked : ℕ) → L → (port : ℕ) → Type 0
+  ListensAt before after asked listener port = IsListening asked listener port
       × Appends before after (listening_line port)
 
 module _ {P B S : Type 0} (names : P → List ℕ → B → Type 0) (permits : P → List ℕ → ℕ → Type 0)
@@ -45,6 +45,6 @@ module _ {P B S : Type 0} (names : P → List ℕ → B → Type 0) (permits : P
   -- And the output states at which path; when nobody is served any more, what is at the path is removed if it is the
   -- file of this socket.
   abbrev pub ListensBy : (removes : P → List ℕ → S → Type 0) → (before after : Option (List ℕ)) → (path : List ℕ)
-      → (mode : ℕ) → Type 0
-  ListensBy removes before after path mode = ((socket : S) × IsSocketAt path mode socket × removes ports path socket)
+      → (mode : ℕ) → S → Type 0
+  ListensBy removes before after path mode socket = (IsSocketAt path mode socket × removes ports path socket)
       × Appends before after (socket_line path)

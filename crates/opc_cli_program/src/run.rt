@@ -1,18 +1,31 @@
 //! `opcmds run`: commands and events, over tables in memory or in a file.
 ghost use Rattle.std.specs.Prelude.{◌≡◌, if◌then◌else◌, true};
+ghost use Rattle.opc_cli_script.specs.Handlers.{AreSteps};
 ghost use Rattle.opc_cli_script.specs.Refusals.{is_cut_by_output};
 ghost use Rattle.opc_cli_program.specs.Imports.{IsPolicyTaken};
-ghost use Rattle.opc_cli_program.specs.Runs.{IsAnsweredInput, IsEndOf, IsNamedPolicyTaken, IsProgramRun, IsRunOfBytes};
+ghost use Rattle.opc_cli_program.specs.Logging.{IsRunWithLog};
+ghost use Rattle.opc_cli_program.specs.Runs.{
+  IsAnsweredInput,
+  IsEndOf,
+  IsNamedPolicyTaken,
+  IsProgramRun,
+  IsRunAfterPolicy,
+  IsRunOfBytes,
+};
 
 use crate::import::take_first;
 use crate::log_stream::LogStream;
+use crate::logging::{log_at, logged_end};
 use crate::refusals::FirstPolicy;
 use opc_cli_failures::failure::{Failure, Place, note};
 use opc_cli_failures::status::Status;
+use opc_cli_log::gate::LoggedGate;
+use opc_cli_log::log::RunLog;
 use opc_cli_questions::openings::Openings;
 use opc_cli_questions::policy_file::{PolicyText, read_rows_at};
 use opc_cli_questions::streams::read_up_to;
 use opc_cli_script::bad_line::reason_of;
+use opc_cli_script::handler::RequestHandler;
 use opc_cli_script::run::{print_bad_line, run_script};
 use opc_cli_script::script::{SCRIPT_LIMIT, ScriptFault};
 use opc_gate::gate::Gate;
@@ -24,21 +37,42 @@ use std::alloc::Global;
 use std::io::Read;
 use std::str;
 
-/// Takes the first policy, if one is named, and then runs the script on the input over these tables, which it returns.
+/// Opens the log at a path, if one is named, takes the first policy, if one is named, and then runs the script on the
+/// input over these tables, which it returns.
 pub fn run_on<H: AllocGlobal + LogStream + Openings, T: Tables, R: Read, K: Sink>(
     rt: &H,
     tables: T,
     policy: Option<&str>,
+    log: Option<&str>,
     input: &mut R,
     output: &mut K,
 ) -> (Result<Status, Failure>, T)
     ensures sure { T.meaning.is_sure result.1 → T.meaning.is_sure tables }
-    ensures runs { IsProgramRun T.meaning K.held K.has_failed (H.holds rt.now) tables result.1
-        policy.entry (R.remaining input.old) output.old output.new result.0 }
+    ensures runs { IsProgramRun T.meaning (H.opens rt.now) H.LogFile.contents K.held K.has_failed (H.holds rt.now)
+        tables result.1 policy.entry log.entry (R.remaining input.old) output.old output.new result.0 }
+{
+    match log_at(rt, log) {
+        Ok(log) => run_after_policy(rt, tables, policy, log, input, output),
+        Err(failure) => (Err(failure), tables),
+    }
+}
+
+/// Takes the first policy, if one is named, and then runs the script on the input over these tables, which it returns.
+fn run_after_policy<H: AllocGlobal + LogStream + Openings, T: Tables, R: Read, K: Sink>(
+    rt: &H,
+    tables: T,
+    policy: Option<&str>,
+    log: Option<RunLog<H::LogFile>>,
+    input: &mut R,
+    output: &mut K,
+) -> (Result<Status, Failure>, T)
+    ensures sure { T.meaning.is_sure result.1 → T.meaning.is_sure tables }
+    ensures runs { IsRunAfterPolicy T.meaning (H.opens rt.now) H.LogFile.contents K.held K.has_failed (H.holds rt.now)
+        tables result.1 policy.entry log (R.remaining input.old) output.old output.new result.0 }
 {
     let (taken, tables) = take_policy(rt, tables, policy);
     match taken {
-        Ok(_) => run_cached(rt, tables, input, output),
+        Ok(_) => run_cached(rt, tables, log, input, output),
         Err(failure) => (Err(failure), tables),
     }
 }
@@ -77,30 +111,41 @@ fn take_file<H: AllocGlobal + Openings, T: Tables>(
 fn run_cached<H: AllocGlobal + LogStream, T: Tables, R: Read, K: Sink>(
     rt: &H,
     tables: T,
+    log: Option<RunLog<H::LogFile>>,
     input: &mut R,
     output: &mut K,
 ) -> (Result<Status, Failure>, T)
     ensures sure { T.meaning.is_sure result.1 → T.meaning.is_sure tables }
-    ensures runs { IsAnsweredInput T.meaning K.held K.has_failed tables result.1
-        (R.remaining input.old) output.old output.new result.0 }
+    ensures runs { IsRunWithLog T.meaning H.LogFile.contents log (λ told ran. IsAnsweredInput T.meaning told K.held
+        K.has_failed tables result.1 (R.remaining input.old) output.old output.new ran) result.0 }
 {
     let mut gate = match Gate::new(rt.alloc(), tables) {
         Ok(gate) => gate,
         Err((fault, tables)) => return (Err(Failure::from(fault)), tables),
     };
-    let end = answer_script(rt, &mut gate, input, output);
-    (end, gate.into_store())
+    match log {
+        Some(log) => {
+            let mut logged = LoggedGate { gate, log };
+            let ran = answer_script(rt, &mut logged, input, output);
+            let end = logged_end(ran, logged.log.fault);
+            (end, logged.gate.into_store())
+        }
+        None => {
+            let end = answer_script(rt, &mut gate, input, output);
+            (end, gate.into_store())
+        }
+    }
 }
 
 /// Runs the script on the input. One that is not UTF-8 is a bad line, as is one that is too long.
-fn answer_script<H: AllocGlobal + LogStream, T: Tables, R: Read, K: Sink>(
+fn answer_script<H: AllocGlobal + LogStream, X: RequestHandler, R: Read, K: Sink>(
     rt: &H,
-    gate: &mut Gate<T>,
+    gate: &mut X,
     input: &mut R,
     output: &mut K,
 ) -> Result<Status, Failure>
-    ensures sure { T.meaning.is_sure gate.new → T.meaning.is_sure gate.old }
-    ensures runs { IsAnsweredInput T.meaning K.held K.has_failed gate.old gate.new
+    ensures sure { X.meaning.is_sure gate.new → X.meaning.is_sure gate.old }
+    ensures runs { IsAnsweredInput X.meaning (AreSteps X.handled) K.held K.has_failed gate.old gate.new
         (R.remaining input.old) output.old output.new result }
 {
     let bytes = match read_up_to(rt.alloc(), input, SCRIPT_LIMIT) {
@@ -112,14 +157,14 @@ fn answer_script<H: AllocGlobal + LogStream, T: Tables, R: Read, K: Sink>(
     ended(ran)
 }
 
-fn run_bytes<T: Tables, K: Sink>(
+fn run_bytes<X: RequestHandler, K: Sink>(
     alloc: Global,
-    gate: &mut Gate<T>,
+    gate: &mut X,
     bytes: &[u8],
     output: &mut K,
 ) -> Result<Status, ScriptFault>
-    ensures sure { T.meaning.is_sure gate.new → T.meaning.is_sure gate.old }
-    ensures runs { IsRunOfBytes T.meaning gate.old gate.new bytes.now (K.held output.old)
+    ensures sure { X.meaning.is_sure gate.new → X.meaning.is_sure gate.old }
+    ensures runs { IsRunOfBytes X.meaning (AreSteps X.handled) gate.old gate.new bytes.now (K.held output.old)
         (K.held output.new) result }
     ensures failed { K.has_failed output.new ≡ (if is_cut_by_output result then true else K.has_failed output.old) }
 {

@@ -2,28 +2,27 @@
 ghost use Rattle.std.specs.Prelude.{◌≡◌, MatchResult, OnErr, OnOk, true, if◌then◌else◌, is_err};
 ghost use Rattle.std.specs.Io.KnownBytes.{Appends};
 ghost use Rattle.opc_cli_script.specs.Faults.{is_cut_by_output};
+ghost use Rattle.opc_cli_script.specs.Handlers.{AreSteps};
 ghost use Rattle.opc_cli_script.specs.Sessions.{IsCutSession, IsSession};
 ghost use Rattle.opc_cli_program.specs.Lines.{IsDated, IsLineRead, IsSaid, output_of};
 ghost use Rattle.opc_cli_script.specs.Running.{AppendsPrefix};
 
 use crate::log_stream::LogStream;
+use crate::wall_clock::WallClock;
 use opc_cli_failures::failure::{Place, note};
 use opc_cli_failures::reason::Reason;
 use opc_cli_failures::status::Status;
 use opc_cli_script::fault::NowFault;
+use opc_cli_script::handler::RequestHandler;
 use opc_cli_script::printer::write_text;
 use opc_cli_script::reading_now::{Typed, read_line};
 use opc_cli_script::session::answer_lines;
 use opc_cli_script::terminal::Terminal;
-use opc_gate::gate::Gate;
-use opc_http_serve::clock::moment;
 use opc_io::watched::Watched;
 use opc_names::name::ConsoleName;
-use opc_state::tables::Tables;
 use std::alloc::Global;
 use std::io;
 use std::io::{Read, Write};
-use std::rt::Clock;
 
 /// An input, an output, and what has a clock and a stream for notes.
 #[derive(Drop)]
@@ -56,14 +55,14 @@ fn write_flushed<W: Write>(output: &mut Watched<W>, text: &str) -> io::Result<()
     flushed
 }
 
-impl<H: AllocGlobal + Clock + LogStream, R: Read, W: Write> Terminal for Streams<'_, H, R, W> {
+impl<H: AllocGlobal + WallClock + LogStream, R: Read, W: Write> Terminal for Streams<'_, H, R, W> {
     ghost use Rattle.opc_cli_program.specs.Lines.{IsDated, IsLineRead, IsSaid};
 
     ghost reads = { λ s typed t. IsLineRead (R.remaining s.input.now, W.contents s.output.now.inner) typed
         (R.remaining t.input.now, W.contents t.output.now.inner) };
 
-    ghost dates = { λ s moment t. IsDated (R.remaining s.input.now, W.contents s.output.now.inner) moment
-        (R.remaining t.input.now, W.contents t.output.now.inner) };
+    ghost dates = { λ s moment t. IsDated H.shows_moment (R.remaining s.input.now, W.contents s.output.now.inner)
+        moment (R.remaining t.input.now, W.contents t.output.now.inner) };
 
     ghost says = { λ s text t. IsSaid (R.remaining s.input.now, W.contents s.output.now.inner) text
         (R.remaining t.input.now, W.contents t.output.now.inner) };
@@ -82,7 +81,7 @@ impl<H: AllocGlobal + Clock + LogStream, R: Read, W: Write> Terminal for Streams
     }
 
     fn moment(&mut self) -> Result<u64, NowFault> {
-        match moment(self.rt) {
+        match self.rt.moment_now() {
             Ok(moment) => Ok(moment),
             Err(error) => Err(NowFault::Clock(error)),
         }
@@ -105,21 +104,23 @@ impl<H: AllocGlobal + Clock + LogStream, R: Read, W: Write> Terminal for Streams
     }
 }
 
-impl<H: AllocGlobal + Clock + LogStream, R: Read, W: Write> Streams<'_, H, R, W> {
+impl<H: AllocGlobal + WallClock + LogStream, R: Read, W: Write> Streams<'_, H, R, W> {
     /// Answers the lines on the input, one after another.
-    pub fn answer_with<T: Tables>(
+    pub fn answer_with<X: RequestHandler>(
         &mut self,
-        gate: &mut Gate<T>,
+        gate: &mut X,
         console: &Option<ConsoleName>,
     ) -> Result<Status, NowFault>
         ensures same_input { self.new.input.ghost_name ≡ self.old.input.ghost_name }
         ensures same_output { self.new.output.ghost_name ≡ self.old.output.ghost_name }
-        ensures sure { T.meaning.is_sure gate.new → T.meaning.is_sure gate.old }
+        ensures sure { X.meaning.is_sure gate.new → X.meaning.is_sure gate.old }
         ensures answered { MatchResult result
-            (IsSession IsLineRead IsDated IsSaid output_of T.meaning console.now gate.old gate.new
+            (IsSession IsLineRead (IsDated H.shows_moment) IsSaid output_of X.meaning X.handled console.now
+            (AreSteps X.handled) gate.old gate.new
             (R.remaining self.old.input.now, W.contents self.old.output.now.inner)
             (R.remaining self.new.input.now, W.contents self.new.output.now.inner))
-            (IsCutSession IsLineRead IsDated IsSaid output_of T.meaning console.now gate.old gate.new
+            (IsCutSession IsLineRead (IsDated H.shows_moment) IsSaid output_of X.meaning X.handled console.now
+            (AreSteps X.handled) gate.old gate.new
             (R.remaining self.old.input.now, W.contents self.old.output.now.inner)
             (R.remaining self.new.input.now, W.contents self.new.output.now.inner)) }
         ensures failed { self.new.output.now.failed

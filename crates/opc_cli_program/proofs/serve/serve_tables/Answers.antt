@@ -1,19 +1,32 @@
-use Rattle.std.proofs.Common.{◌∙◌, ap, subst}
-use Rattle.opc_cli_failures.specs.Statuses.{status_of}
-use Rattle.opc_cli_program.proofs.Services.{handed_back, not_served}
+use Rattle.std.proofs.Common.{inl, inr, refl}
+use Rattle.opc_cli_program.proofs.ServicePolicies.{sure_before}
 use Rattle.opc_cli_program.proofs.serve.serve_tables.Goals as goal
 
-pub returns-in-Err-clause-serves : goal.returns-in-Err-clause-serves
-returns-in-Err-clause-serves g c =
-    let back = c.in-Err.ensures.refused in
-    not_served g.T.Tables.meaning _ _ _ _ c.args.serve.now _ _ _ c.args.serve.now.address
-    (record { failed = ap status_of (c.from.ensures ∙ back.0); same = back.1 })
+pub returns-in-Ok-clause-sure : goal.returns-in-Ok-clause-sure
+returns-in-Ok-clause-sure g c = λ sure.
+    sure_before g.T.Tables.meaning c.args.serve.now.policies _ _ c.started-brought.ensures.started (c.serve_from.ensures.sure sure)
 
-pub returns-clause-serves : goal.returns-clause-serves
-returns-clause-serves g c =
-    let t = g.T.Tables in
-    let made = c.in-Ok.ensures.made in
-    handed_back t.meaning c.in-Ok.gate c.serve_service-end.new.service.gate
-    (λ s h. c.in-Ok.ensures.represents s (subst (λ tables. t.meaning.represents tables s) made.0 h))
-    _ _ c.args.serve.now c.serve_service-end.result _ _ _ _ (λ asked port said. said.1) (λ path mode said. said.1)
-    _ _ made.0 c.into_store.ensures c.args.serve.now.address c.serve_service-end.ensures.serves
+pub returns-in-Ok-clause-serves : goal.returns-in-Ok-clause-serves
+returns-in-Ok-clause-serves g c = record {
+  log = c.log_on-log.result;
+  log_is = c.log_on-log.ensures;
+  started = _;
+  start = c.started-brought.ensures.started;
+  serves = inr (record {
+    folder = c.in-Ok.folder;
+    brought = λ sure s h. rw c.in-Ok.is at (c.started-brought.ensures.brought sure s h);
+    serves = c.serve_from.ensures.serves;
+  });
+}
+
+pub returns-in-Err-clause-sure : goal.returns-in-Err-clause-sure
+returns-in-Err-clause-sure g c = sure_before g.T.Tables.meaning c.args.serve.now.policies _ _ c.started-brought.ensures.started
+
+pub returns-in-Err-clause-serves : goal.returns-in-Err-clause-serves
+returns-in-Err-clause-serves g c = record {
+  log = c.log_on-log.result;
+  log_is = c.log_on-log.ensures;
+  started = _;
+  start = c.started-brought.ensures.started;
+  serves = inl (record { failed = rw c.in-Err.is at c.started-brought.ensures.status; same = refl });
+}

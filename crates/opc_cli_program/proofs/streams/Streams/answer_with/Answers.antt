@@ -10,5 +10,6 @@ returns-clause-same_output g c = ap (λ (p : ℕ × ℕ). p.1) c.answer_lines.en
 
 pub returns-clause-answered : goal.returns-clause-answered
 returns-clause-answered g c =
-    viewed (λ s. (g.R.Read.remaining s.input.now, g.W.Write.contents s.output.now.inner)) g.T.Tables.meaning _ _ _ _ _ c.answer_lines.result
+    viewed (λ s. (g.R.Read.remaining s.input.now, g.W.Write.contents s.output.now.inner)) g.H.WallClock.shows_moment
+    g.X.RequestHandler.meaning g.X.RequestHandler.handled _ _ _ _ _ c.answer_lines.result
     c.answer_lines.ensures.answered c.answer_lines.ensures.cut

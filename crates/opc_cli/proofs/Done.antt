@@ -12,7 +12,8 @@ use Rattle.opc_cli_failures.specs.declared.status.Status.TheVariants.{Done, Refu
 use Rattle.opc_cli_failures.specs.Statuses.{IsFailure, number_of, status_of}
 use Rattle.opc_cli_tasks.specs.declared.task.Task.{Task}
 use Rattle.opc_cli_words.specs.Reading.{AreRead}
-use Rattle.opc_cli.specs.Words.{AreDone, IsFaultReported, IsTaskDoneBy, input_file}
+use Rattle.opc_cli.specs.RunFiles.{logged_run, unknown_files}
+use Rattle.opc_cli.specs.Words.{AreDone, IsDoneApart, IsFaultReported}
 
 pub at_most_three : (status : Status) → number_of status ≤ 3
 at_most_three Done = omega arith
@@ -39,13 +40,13 @@ module _ {D C : Type 0} (g : disk.Ghosts D) (is_fresh : Bool → D → Type 0) (
     {W E : Type 0} (contents : W → Option (List ℕ)) (shown : E → Option (List ℕ)) (left : Option (List ℕ)) where
   pub task_done : (words : List (List ℕ)) (before first written : Watched W) (quiet heard reported : Watched E) (status : Status) (task : Task)
       → AreRead words (λ (w : Watched W). contents w.inner) shown before first quiet heard (Ok task)
-      → IsTaskDoneBy g is_fresh copies is_as_read image contents shown left first written heard reported status task (input_file task)
+      → IsDoneApart g is_fresh copies is_as_read image contents shown left first written heard reported status unknown_files task (logged_run task)
       → AreDone g is_fresh copies is_as_read image contents shown left before written quiet reported status words
   task_done words before first written quiet heard reported status task (ask, same, silent) done = inl (
     task,
     ask,
-    subst (λ w. IsTaskDoneBy g is_fresh copies is_as_read image contents shown left w written quiet reported status task (input_file task)) same
-        (subst (λ e. IsTaskDoneBy g is_fresh copies is_as_read image contents shown left first written e reported status task (input_file task))
+    subst (λ w. IsDoneApart g is_fresh copies is_as_read image contents shown left w written quiet reported status unknown_files task (logged_run task)) same
+        (subst (λ e. IsDoneApart g is_fresh copies is_as_read image contents shown left first written e reported status unknown_files task (logged_run task))
         silent done),
   )
 

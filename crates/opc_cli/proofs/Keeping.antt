@@ -2,6 +2,7 @@
 use Rattle.std.proofs.Common.{◌≡◌, ◌∙◌, inl, inr, ℕ, Bool, List, Option, Some, None, Result, Ok, Err, MatchOption, refl, sym, subst, ap, false, not}
 use Rattle.std.specs.Prelude.{MatchResult, IsUtf8}
 use Rattle.std.specs.Io.KnownBytes.{Appends}
+use Rattle.std.specs.declared.fs.File.{File}
 use Rattle.sqlite_disk.specs.declared.Disk as disk
 use Rattle.sqlite_disk.specs.declared.Files.{Files}
 use Rattle.sqlite_store.specs.declared.store.FileStore.{FileStore}
@@ -38,12 +39,14 @@ use Rattle.opc_cli_script.specs.declared.script.ScriptFault.TheVariants.{BadLine
 use Rattle.opc_cli_script.specs.Running.{IsAnswered, IsScriptRun, IsWhole}
 use Rattle.opc_cli_script.specs.Scripts.{bad_line, requests_in}
 use Rattle.opc_cli_program.specs.Imports.{AreTaken, IsOneStep, IsPolicyTaken, IsReported, lines_text}
+use Rattle.opc_cli_log.specs.declared.log.RunLog.{RunLog}
+use Rattle.opc_cli_program.specs.Logging.{IsRunWithLog}
 use Rattle.opc_cli_program.specs.Runs.{IsAnsweredInput, IsEndOf, IsInputRun, IsRunOfBytes}
 use Rattle.opc_cli_program.specs.Works.{IsImportNow}
 use Rattle.opc_cli_tasks.specs.declared.work.Work.{Work}
 use Rattle.opc_cli_tasks.specs.declared.work.Import.{Import as Asked}
 use Rattle.opc_io.specs.declared.watched.Watched.{Watched}
-use Rattle.opc_cli.specs.Works.{IsEnd}
+use Rattle.opc_cli.specs.Works.{IsEnd, unknown_log, unknown_moment}
 use Rattle.opc_cli.specs.Kept.{
   HoldTablesOf,
   IsFirstRefused,
@@ -58,6 +61,7 @@ use Rattle.opc_cli.specs.Kept.{
   RefusedPoliciesChangeNothing,
   RunsAreKept,
 }
+use Rattle.opc_cli.proofs.Logs.{done_with_log, failed_with_log, log_opened, log_opened_again}
 
 taken_well : {X : Type 0} (Y : Failure → Type 0) (t : Result Status Failure) → t ≡ Ok Done → MatchResult t (λ _. X) Y → X
 taken_well Y (Ok status) is h = h
@@ -165,38 +169,42 @@ module _ {D : Type 0} (g : disk.Ghosts D) where
 
     -- ---- a script
 
-    begun : (mid last : Tables) (left : Option (List ℕ)) (before written : Watched W) (status : Status)
-        → IsAnsweredInput means held has_failed mid last left before written (Ok status)
-        → IsInputRun means held has_failed mid last left before written (Ok status)
-    begun mid last left before written status (inl nothing) = absurd nothing.unread
-    begun mid last left before written status (inr run) = run
+    begun : (told : (old new : Tables) → List (ℕ × Request) → List Answer → Type 0) (mid last : Tables)
+        (left : Option (List ℕ)) (before written : Watched W) (status : Status)
+        → IsAnsweredInput means told held has_failed mid last left before written (Ok status)
+        → IsInputRun means told held has_failed mid last left before written (Ok status)
+    begun told mid last left before written status (inl nothing) = absurd nothing.unread
+    begun told mid last left before written status (inr run) = run
 
-    whole : (mid last : Tables) (requests : List (ℕ × Request)) (before written : Option (List ℕ)) (status : Status)
+    whole : (told : (old new : Tables) → List (ℕ × Request) → List Answer → Type 0) (mid last : Tables)
+        (requests : List (ℕ × Request)) (before written : Option (List ℕ)) (status : Status)
         (ran : Result Status ScriptFault) → IsEndOf ran (Ok status)
-        → IsScriptRun means mid last requests before written ran → IsWhole means mid last requests before written status
-    whole mid last requests before written status (Ok reported) ends w =
-        subst (λ (x : Status). IsWhole means mid last requests before written x) (cc) w
-    whole mid last requests before written status (Err (BadLine number)) ends (inl w) = absurd (let same = w.no_memory in cc)
-    whole mid last requests before written status (Err (BadLine number)) ends (inr w) = absurd w.cut_off
-    whole mid last requests before written status (Err NoMemory) ends w = absurd ends
-    whole mid last requests before written status (Err (Output error)) ends w = absurd ends
+        → IsScriptRun means told mid last requests before written ran → IsWhole means told mid last requests before written status
+    whole told mid last requests before written status (Ok reported) ends w =
+        subst (λ (x : Status). IsWhole means told mid last requests before written x) (cc) w
+    whole told mid last requests before written status (Err (BadLine number)) ends (inl w) = absurd (let same = w.no_memory in cc)
+    whole told mid last requests before written status (Err (BadLine number)) ends (inr w) = absurd w.cut_off
+    whole told mid last requests before written status (Err NoMemory) ends w = absurd ends
+    whole told mid last requests before written status (Err (Output error)) ends w = absurd ends
 
-    text_run : (mid last : Tables) (script : List ℕ) (before written : Option (List ℕ)) (ran : Result Status ScriptFault) → IsUtf8 script
-        → IsRunOfBytes means mid last script before written ran → IsAnswered means mid last script before written ran
-    text_run mid last script before written ran text (inl run) = run.1
-    text_run mid last script before written ran text (inr not) = absurd (not.0 text)
+    text_run : (told : (old new : Tables) → List (ℕ × Request) → List Answer → Type 0) (mid last : Tables)
+        (script : List ℕ) (before written : Option (List ℕ)) (ran : Result Status ScriptFault) → IsUtf8 script
+        → IsRunOfBytes means told mid last script before written ran → IsAnswered means told mid last script before written ran
+    text_run told mid last script before written ran text (inl run) = run.1
+    text_run told mid last script before written ran text (inr not) = absurd (not.0 text)
 
-    script_kept : (mid last : Tables) (s : State) (left : Option (List ℕ)) (before written : Watched W) (status : Status) (files : Files D)
+    script_kept : (told : (old new : Tables) → List (ℕ × Request) → List Answer → Type 0) (mid last : Tables)
+        (s : State) (left : Option (List ℕ)) (before written : Watched W) (status : Status) (files : Files D)
         → IsEnd last (Ok files) → AreClean g files.log files.db → Are mid s
-        → IsAnsweredInput means held has_failed mid last left before written (Ok status)
+        → IsAnsweredInput means told held has_failed mid last left before written (Ok status)
         → IsKeptScript g s left (held before) (held written) status files
-    script_kept mid last s left before written status files ends clean was answered =
-        let input = begun mid last left before written status answered in (
+    script_kept told mid last s left before written status files ends clean was answered =
+        let input = begun told mid last left before written status answered in (
           input.script,
           input.are,
           λ text none.
-              let ran = text_run mid last input.script (held before) (held written) input.ran text input.run in
-              let run = whole mid last (requests_in input.script) (held before) (held written) status input.ran
+              let ran = text_run told mid last input.script (held before) (held written) input.ran text input.run in
+              let run = whole told mid last (requests_in input.script) (held before) (held written) status input.ran
               input.ends (without _ (bad_line input.script) none ran) in
               let it = run.run (ends.1 clean).was_clean s was in
               record {
@@ -209,35 +217,50 @@ module _ {D : Type 0} (g : disk.Ghosts D) where
               },
         )
 
+    -- a run that was begun ends by a fault only if an allocation, the input or the output failed
+    ran_failed : (told : (old new : Tables) → List (ℕ × Request) → List Answer → Type 0) (mid last : Tables) (left : Option (List ℕ))
+        (before written : Watched W) (failure : Failure)
+        → IsAnsweredInput means told held has_failed mid last left before written (Err failure) → IsFailure failure.fault
+    ran_failed told mid last left before written failure (inl nothing) = input_failed failure nothing.unread
+    ran_failed told mid last left before written failure (inr run) = script_failed run.ran failure run.ends
+
+    -- the run of a script, by what is more known of its requests, and by its outcome
+    abbrev Ran : (mid last : Tables) → Option (List ℕ) → (before written : Watched W)
+        → ((old new : Tables) → List (ℕ × Request) → List Answer → Type 0) → Result Status Failure → Type 0
+    Ran mid last left before written told ran = IsAnsweredInput means told held has_failed mid last left before written ran
+
     -- the outcome of the first policy, and then of the script
-    abbrev Then : (mid last : Tables) → Option (List ℕ) → (before written : Watched W) → Result Status Failure → Result Status Failure → Type 0
-    Then mid last left before written end taken =
-        MatchResult taken (λ _. IsAnsweredInput means held has_failed mid last left before written end)
+    abbrev Then : Option (RunLog File) → (mid last : Tables) → (left : Option (List ℕ)) → (before written : Watched W)
+        → (end taken : Result Status Failure) → Type 0
+    Then log mid last left before written end taken =
+        MatchResult taken (λ _. IsRunWithLog means unknown_log log (Ran mid last left before written) end)
         (λ failure. (end ≡ Err failure) × (last ≡ mid) × (written ≡ before))
 
     module _ (opened mid last : Tables) (s : State) (left : Option (List ℕ)) (before written : Watched W)
         (files : Files D) (ends : IsEnd last (Ok files)) (clean : AreClean g files.log files.db) (sure : Sure mid)
         (was : Are opened s) where
-      first_kept : (status : Status) (taken : Result Status Failure)
-          → IsPolicyTaken means opened mid taken None → Then mid last left before written (Ok status) taken
+      first_kept : (log : Option (RunLog File)) (status : Status) (taken : Result Status Failure)
+          → IsPolicyTaken means opened mid taken None → Then log mid last left before written (Ok status) taken
           → IsKeptFirstRun g s left (held before) (held written) status files
-      first_kept status (Ok ended) takes answered =
+      first_kept log status (Ok ended) takes answered =
           let first = first_taken opened mid ended s sure was takes in
           record {
             rows = first.rows;
             read = first.read;
             first = first.first;
             taken = first.taken;
-            run = script_kept mid last first.first left before written status files ends clean first.are answered;
+            run = done_with_log means unknown_log log (Ran mid last left before written) status answered
+                (λ told ran. script_kept told mid last first.first left before written status files ends clean first.are ran);
           }
-      first_kept status (Err failure) takes ended = absurd (let same = ended.0 in cc)
+      first_kept log status (Err failure) takes ended = absurd (let same = ended.0 in cc)
 
-      refused_kept : (failure : Failure) → (IsFailure failure.fault → ⊥) → (taken : Result Status Failure)
-          → IsPolicyTaken means opened mid taken None → Then mid last left before written (Err failure) taken
+      refused_kept : (log : Option (RunLog File)) (failure : Failure) → (IsFailure failure.fault → ⊥) → (taken : Result Status Failure)
+          → IsPolicyTaken means opened mid taken None → Then log mid last left before written (Err failure) taken
           → IsFirstRefused s failure.fault × (written ≡ before) × HoldTablesOf g files s
-      refused_kept failure reported (Ok ended) takes (inl nothing) = absurd (reported (input_failed failure nothing.unread))
-      refused_kept failure reported (Ok ended) takes (inr run) = absurd (reported (script_failed run.ran failure run.ends))
-      refused_kept failure reported (Err why) takes ended =
+      refused_kept log failure reported (Ok ended) takes answered =
+          absurd (failed_with_log means unknown_log log (Ran mid last left before written) failure reported answered
+          (λ told ran. reported (ran_failed told mid last left before written failure ran)))
+      refused_kept log failure reported (Err why) takes ended =
           let same : why ≡ failure = (let is = ended.0 in cc) in
           let both = first_refused opened mid why s sure was (λ is. reported (subst (λ (f : Failure). IsFailure f.fault) same is)) takes in (
             subst (λ (f : Failure). IsFirstRefused s f.fault) same both.0,
@@ -273,29 +296,37 @@ module _ {D : Type 0} (g : disk.Ghosts D) where
       start = λ _. over.works.opening.found (over.works.sure last_sure) over.found over.holds s over.tables
 
     pub runs_are_kept : RunsAreKept g contents
-    runs_are_kept s script left before written status files over =
+    runs_are_kept s script log left before written status files over =
         let r = over.works in
-        let answered = taken_well _ r.done.taken r.done.takes.0 r.done.runs in
-        let same = subst (λ (mid : Tables). IsAnsweredInput means held has_failed mid r.last left before
-        written (Ok status)) r.done.takes.1 answered in
-        script_kept r.opened r.last s left before written status files r.ends over.clean (start over) same
+        let opens = log_opened _ _ r.done.log r.done.runs (λ failure ended. let same = ended.0 in cc) in
+        let run = opens.1 in
+        let answered = taken_well _ run.taken run.takes.0 run.runs in
+        done_with_log means unknown_log opens.0 (Ran run.mid r.last left before written) status answered (λ told ran.
+        let same = subst (λ (mid : Tables). IsAnsweredInput means told held has_failed mid r.last left before
+        written (Ok status)) run.takes.1 ran in
+        script_kept told r.opened r.last s left before written status files r.ends over.clean (start over) same)
 
     pub first_policies_are_kept : FirstPoliciesAreKept g contents
-    first_policies_are_kept s path script left before written status files over =
+    first_policies_are_kept s path script log left before written status files over =
         let r = over.works in
-        first_kept r.opened r.done.mid r.last s left before written files r.ends over.clean
-        (r.done.sure (last_sure over)) (start over) status r.done.taken r.done.takes r.done.runs
+        let opens = log_opened _ _ r.done.log r.done.runs (λ failure ended. let same = ended.0 in cc) in
+        let run = opens.1 in
+        first_kept r.opened run.mid r.last s left before written files r.ends over.clean
+        (run.sure (last_sure over)) (start over) opens.0 status run.taken run.takes run.runs
 
     pub refused_change_nothing : RefusedPoliciesChangeNothing g contents
-    refused_change_nothing s path script left before written failure files over reported =
+    refused_change_nothing s path script log left before written failure files over reported =
         let r = over.works in
-        refused_kept r.opened r.done.mid r.last s left before written files r.ends over.clean
-        (r.done.sure (last_sure over)) (start over) failure reported r.done.taken r.done.takes r.done.runs
+        let opens = log_opened_again _ _ _ log r.done.log failure reported r.done.opened r.done.runs (λ why ended. let is = ended.0 in cc) in
+        let run = opens.1 in
+        refused_kept r.opened run.mid r.last s left before written files r.ends over.clean
+        (run.sure (last_sure over)) (start over) opens.0 failure reported run.taken run.takes run.runs
 
     module _ (opened last : Tables) (s : State) (import : Asked) (left : Option (List ℕ)) (before written : Watched W)
         (status : Status) (files : Files D) (ends : IsEnd last (Ok files)) (clean : AreClean g files.log files.db)
         (was : Are opened s) where
-      at_console : (console : List ℕ) → import.console ≡ Some console → IsImportNow means contents opened last left before written (Ok status) import
+      at_console : (console : List ℕ) → import.console ≡ Some console
+          → IsImportNow means contents opened last left before written (Ok status) unknown_moment import
           → (rows : List Row) × AreRead left rows
           × ((moment : ℕ) × IsKeptRequest g s moment (input.Import console import.batch rows) (held before)
           (held written) files)
@@ -306,7 +337,7 @@ module _ {D : Type 0} (g : disk.Ghosts D) where
           before written moment import.batch c rows) is taken in
           (rows, read, (moment, request_kept opened last s moment (input.Import console import.batch rows) before written status files ends clean was step))
 
-      without_console : import.console ≡ None → IsImportNow means contents opened last left before written (Ok status) import
+      without_console : import.console ≡ None → IsImportNow means contents opened last left before written (Ok status) unknown_moment import
           → (rows : List Row) × AreRead left rows × ((first : State) × (bootstrapped rows s ≡ Ok first) × (written ≡ before) × HoldTablesOf g files first)
       without_console is (inl failed) = absurd failed.0
       without_console is (inr (moment, early, inl nothing)) = absurd nothing.unread

@@ -1,5 +1,6 @@
 mod Apart
 mod Keeping
+mod Logs
 mod Shutting
 mod Readings
 mod Answered

@@ -6,6 +6,7 @@ use Rattle.opc_cli_failures.specs.declared.status.Status.TheVariants.{BadInput, 
 use Rattle.opc_cli_failures.specs.Statuses.{number_of}
 use Rattle.opc_cli_script.specs.declared.script.ScriptFault.{ScriptFault}
 use Rattle.opc_cli_script.specs.declared.script.ScriptFault.TheVariants.{BadLine, NoMemory, Output}
+use Rattle.opc_cli_script.specs.Handlers.{AreSteps, nothing_more}
 use Rattle.opc_cli_script.specs.Refusals.{is_cut_by_output}
 use Rattle.opc_cli_script.specs.Running.{IsAnswered}
 use Rattle.opc_http_connections.specs.Links.{ClientSource}
@@ -32,7 +33,7 @@ module _ {T : Type 0} (m : Meaning T) (old new : T) where
   pub record IsScript {K : Type 0} (held : K → Option (List ℕ)) (has_failed : K → Bool) (script : List ℕ)
       (before written : K) (number : ℕ) : Type 0 where
     pub ran : Result Status ScriptFault
-    pub answered : IsAnswered m old new script (held before) (held written) ran
+    pub answered : IsAnswered m (AreSteps nothing_more) old new script (held before) (held written) ran
     pub failed : has_failed written ≡ (if is_cut_by_output ran then true else has_failed before)
     pub ends : number ≡ number_of (status_of_script ran)
 

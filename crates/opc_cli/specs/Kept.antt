@@ -29,7 +29,8 @@ use Rattle.opc_cli_questions.specs.PolicyFiles.{AreRead, IsRefused}
 use Rattle.opc_cli_script.specs.Scripts.{bad_line, requests_in}
 use Rattle.opc_cli_script.specs.Statuses.{status_of}
 use Rattle.opc_cli_script.specs.Transcripts.{transcript}
-use Rattle.opc_cli_program.specs.Imports.{IsWritten, exported, lines_text}
+use Rattle.opc_http_serve.specs.Policies.{export_of}
+use Rattle.opc_cli_program.specs.Imports.{IsWritten, lines_text}
 use Rattle.opc_cli_program.specs.Runs.{AreScriptBytes}
 use Rattle.opc_io.specs.declared.watched.Watched.{Watched}
 use Rattle.opc_cli_tasks.specs.declared.work.Import.{Import as Asked}
@@ -100,26 +101,26 @@ module _ {D : Type 0} (g : disk.Ghosts D) where
     -- If a script without a bad line was run, they hold tables of the state that its requests lead to,
     abbrev pub RunsAreKept : Type 0
     RunsAreKept =
-        (s : State) (script : Option (Bor (List ℕ))) (left : Option (List ℕ)) (before written : Watched W)
+        (s : State) (script log : Option (Bor (List ℕ))) (left : Option (List ℕ)) (before written : Watched W)
         (status : Status) (files : Files D)
-        → IsWorkOver s (Run None (Script script)) left before written (Ok status) files
+        → IsWorkOver s (Run None (Script script) log) left before written (Ok status) files
         → IsKeptScript s left (contents before.inner) (contents written.inner) status files
 
     -- and they do the same after a first policy, which was taken before.
     abbrev pub FirstPoliciesAreKept : Type 0
     FirstPoliciesAreKept =
-        (s : State) (path : Bor (List ℕ)) (script : Option (Bor (List ℕ))) (left : Option (List ℕ))
+        (s : State) (path : Bor (List ℕ)) (script log : Option (Bor (List ℕ))) (left : Option (List ℕ))
         (before written : Watched W) (status : Status) (files : Files D)
-        → IsWorkOver s (Run (Some path) (Script script)) left before written (Ok status) files
+        → IsWorkOver s (Run (Some path) (Script script) log) left before written (Ok status) files
         → IsKeptFirstRun s left (contents before.inner) (contents written.inner) status files
 
     -- If the run ends by a fault that is not of memory, the store or a device, the first policy was refused, nothing
     -- was printed, and they hold tables of the state as it was.
     abbrev pub RefusedPoliciesChangeNothing : Type 0
     RefusedPoliciesChangeNothing =
-        (s : State) (path : Bor (List ℕ)) (script : Option (Bor (List ℕ))) (left : Option (List ℕ))
+        (s : State) (path : Bor (List ℕ)) (script log : Option (Bor (List ℕ))) (left : Option (List ℕ))
         (before written : Watched W) (failure : Failure) (files : Files D)
-        → IsWorkOver s (Run (Some path) (Script script)) left before written (Err failure) files
+        → IsWorkOver s (Run (Some path) (Script script) log) left before written (Err failure) files
         → (IsFailure failure.fault → ⊥)
         → IsFirstRefused s failure.fault × (written ≡ before) × HoldTablesOf files s
 
@@ -149,5 +150,5 @@ module _ {D : Type 0} (g : disk.Ghosts D) where
         (s : State) (left : Option (List ℕ)) (before written : Watched W) (end : Result Status Failure)
         (files : Files D)
         → (over : IsWorkOver s Export left before written end files)
-        → IsWritten (exported s) (contents before.inner) (contents written.inner) end × HoldTablesOf files s
+        → IsWritten (export_of s) (contents before.inner) (contents written.inner) end × HoldTablesOf files s
         × (over.are_made ≡ false)

@@ -60,8 +60,11 @@ use Rattle.opc_cli_tasks.specs.declared.work.Work.{Work}
 use Rattle.opc_cli_tasks.specs.declared.work.Work.TheVariants as work
 use Rattle.opc_cli_tasks.specs.declared.question.PolicyQuestion.{PolicyQuestion}
 use Rattle.opc_cli_tasks.specs.declared.question.PolicyQuestion.TheVariants as question
+use Rattle.opc_cli.specs.RunFiles.{IsApart, IsShared, logged_run, unknown_files}
+use Rattle.opc_cli.specs.declared.run_files.LoggedRun.{LoggedRun}
+use Rattle.opc_cli.specs.declared.run_files.RunFile.{RunFile}
 use Rattle.opc_cli.specs.Reads.{AccountOf, AnswerTo, DatabaseQuestion, IsReadAt}
-use Rattle.opc_cli.specs.Works.{AreLinesInMemory, IsRunInMemory, IsWorkAt}
+use Rattle.opc_cli.specs.Works.{AreLinesInMemory, IsRunInMemory, IsWorkAt, unknown_log, unknown_moment, unknown_opening}
 use Rattle.opc_cli.specs.Made.{made_line}
 
 -- the status of an operation over a file: that of its end, or a failure if the file was not closed
@@ -97,10 +100,10 @@ module _ {E : Type 0} (shown : E → Option (List ℕ)) where
 -- The program ran over new tables in memory. Nothing is known about what the files of the system hold.
 pub record IsDoneInMemory {W E : Type 0} (contents : W → Option (List ℕ)) (shown : E → Option (List ℕ))
     (left : Option (List ℕ)) (before written : Watched W) (quiet reported : Watched E) (status : Status)
-    (policy : Option (Bor (List ℕ))) : Type 0 where
+    (policy log : Option (Bor (List ℕ))) : Type 0 where
   pub end : Result Status Failure
-  pub ran : IsRunInMemory (λ (w : Watched W). contents w.inner) (λ (w : Watched W). w.failed) (λ path. None) policy left
-      before written end
+  pub ran : IsRunInMemory (λ (w : Watched W). contents w.inner) (λ (w : Watched W). w.failed) unknown_opening
+      unknown_log (λ path. None) policy log left before written end
   pub status_is : status ≡ status_of_end end
   pub end_reported : IsEndReported shown quiet reported end
   pub empty_noted : IfOk end (IsEmptyRoomNoted (λ (e : Watched E). shown e.inner) (λ (e : Watched E). e.failed) quiet
@@ -109,10 +112,10 @@ pub record IsDoneInMemory {W E : Type 0} (contents : W → Option (List ℕ)) (s
 -- Or the lines on its input were answered over such tables.
 pub record AreLinesDoneInMemory {W E : Type 0} (contents : W → Option (List ℕ)) (shown : E → Option (List ℕ))
     (left : Option (List ℕ)) (before written : Watched W) (quiet reported : Watched E) (status : Status)
-    (console : Option (List ℕ)) (policy : Option (Bor (List ℕ))) : Type 0 where
+    (console : Option (List ℕ)) (policy log : Option (Bor (List ℕ))) : Type 0 where
   pub end : Result Status Failure
-  pub answered : AreLinesInMemory (λ (w : Watched W). contents w.inner) (λ (w : Watched W). w.failed) console
-      (λ path. None) policy left before written end
+  pub answered : AreLinesInMemory (λ (w : Watched W). contents w.inner) (λ (w : Watched W). w.failed) unknown_moment
+      console unknown_opening unknown_log (λ path. None) policy log left before written end
   pub status_is : status ≡ status_of_end end
   pub end_reported : IsEndReported shown quiet reported end
   pub empty_noted : IfOk end (IsEmptyRoomNoted (λ (e : Watched E). shown e.inner) (λ (e : Watched E). e.failed) quiet
@@ -121,11 +124,11 @@ pub record AreLinesDoneInMemory {W E : Type 0} (contents : W → Option (List �
 -- Either, over tables in memory.
 abbrev pub IsInMemory : {W E : Type 0} → (contents : W → Option (List ℕ)) → (shown : E → Option (List ℕ))
     → (left : Option (List ℕ)) → (before written : Watched W) → (quiet reported : Watched E) → Status
-    → (policy : Option (Bor (List ℕ))) → Lines → Type 0
-IsInMemory contents shown left before written quiet reported status policy (Script file) =
-    IsDoneInMemory contents shown left before written quiet reported status policy
-IsInMemory contents shown left before written quiet reported status policy (Now console) =
-    AreLinesDoneInMemory contents shown left before written quiet reported status console policy
+    → (policy : Option (Bor (List ℕ))) → Lines → (log : Option (Bor (List ℕ))) → Type 0
+IsInMemory contents shown left before written quiet reported status policy (Script file) log =
+    IsDoneInMemory contents shown left before written quiet reported status policy log
+IsInMemory contents shown left before written quiet reported status policy (Now console) log =
+    AreLinesDoneInMemory contents shown left before written quiet reported status console policy log
 
 -- The table of commands was printed, or an allocation or the output failed.
 abbrev pub IsTablePrinted : {W : Type 0} → (contents : W → Option (List ℕ)) → (before written : Watched W)
@@ -255,8 +258,8 @@ module _ {D C : Type 0} (g : disk.Ghosts D) (is_fresh : Bool → D → Type 0) (
       IsAccountDone copies is_as_read image contents shown before written quiet reported status asked
   IsTaskDone (task.Work path work) =
       IsWorkInFile g is_fresh image contents shown left before written quiet reported status path.now work
-  IsTaskDone (task.InMemory policy lines) =
-      IsInMemory contents shown left before written quiet reported status policy lines
+  IsTaskDone (task.InMemory policy lines log) =
+      IsInMemory contents shown left before written quiet reported status policy lines log
   IsTaskDone task.Digest = IsDigestAnswered g is_fresh image contents shown left before written quiet reported status
   IsTaskDone task.Commands = AreCommandsListed contents shown before written quiet reported status
 
@@ -267,9 +270,9 @@ script_file (Now console) = None
 
 -- the file that a task reads in the place of the standard input, if it names one
 abbrev pub input_file : Task → Option InputFile
-input_file (task.Work path (work.Run policy lines)) = script_file lines
+input_file (task.Work path (work.Run policy lines log)) = script_file lines
 input_file (task.Work path (work.Import import)) = option_map (λ file. input.Policy file) import.file
-input_file (task.InMemory policy lines) = script_file lines
+input_file (task.InMemory policy lines log) = script_file lines
 input_file other = None
 
 module _ {D C : Type 0} (g : disk.Ghosts D) (is_fresh : Bool → D → Type 0) (copies : disk.Ghosts C)
@@ -290,7 +293,14 @@ module _ {D C : Type 0} (g : disk.Ghosts D) (is_fresh : Bool → D → Type 0) (
       IsTaskDone g is_fresh copies is_as_read image contents shown left before written quiet reported status task
   IsTaskDoneBy task (Some file) = IsDoneByFile task file ⊎ IsNotStarted shown before written quiet reported status
 
+  -- A task was done, if it is no run with a log, or the log was found to be none of the other files of the run.
+  -- Otherwise nothing was done.
+  abbrev pub IsDoneApart : (finds : List ℕ → RunFile → Bool → Type 0) → Task → Option LoggedRun → Type 0
+  IsDoneApart finds task None = IsTaskDoneBy task (input_file task)
+  IsDoneApart finds task (Some run) = (IsApart finds run × IsTaskDoneBy task (input_file task))
+      ⊎ (IsShared finds run × IsNotStarted shown before written quiet reported status)
+
   -- What the arguments ask for was done; or they ask for no task, and that was reported.
   abbrev pub AreDone : (words : List (List ℕ)) → Type 0
-  AreDone words = ((task : Task) × Ask words task × IsTaskDoneBy task (input_file task))
+  AreDone words = ((task : Task) × Ask words task × IsDoneApart unknown_files task (logged_run task))
       ⊎ AskForNone words (λ (w : Watched W). contents w.inner) shown before written quiet reported status

@@ -14,6 +14,7 @@ pub mod memory;
 mod questions;
 pub mod reading;
 mod run;
+pub mod run_files;
 pub mod script;
 pub mod service;
 
@@ -24,8 +25,10 @@ ghost use Rattle.opc_store_file.specs.Copies.{IsAsRead};
 ghost use Rattle.opc_store.specs.Opening.{opening_fault};
 ghost use Rattle.opc_cli_failures.specs.Statuses.{number_of};
 ghost use Rattle.opc_cli_words.specs.Reading.{arguments, words_after};
+ghost use Rattle.opc_cli.specs.RunFiles.{logged_run};
 ghost use Rattle.opc_cli.specs.Words.{
   AreDone,
+  IsDoneApart,
   IsMadeNoted,
   IsTaskDone,
   IsWorkInFile,
@@ -41,6 +44,7 @@ use crate::input::do_by_input;
 use crate::made::report_made;
 use crate::questions::answer_from;
 use crate::run::run_without_file;
+use crate::run_files::{RunPaths, log_apart, logged_run};
 pub use crate::script::run_script;
 pub use crate::service::serve_on;
 use opc_cli_digest::answering::answer_password;
@@ -111,8 +115,30 @@ fn do_words<S: Start, R: Read, W: Write, E: Write>(
         E.contents (R.remaining input.old) output.old output.new errors.old errors.new result (words_after words.now) }
 {
     match read_words(rt.alloc(), words, output, errors) {
-        Ok(task) => do_by_input(rt, start, &task, input, output, errors),
+        Ok(task) => do_apart(rt, rt, start, &task, input, output, errors),
         Err(status) => status,
+    }
+}
+/// Does a task, unless it is a run whose log is another file of it.
+fn do_apart<P: RunPaths, S: Start, R: Read, W: Write, E: Write>(
+    paths: &P,
+    rt: &HostRuntime,
+    start: S,
+    task: &Task<'_>,
+    input: &mut R,
+    output: &mut Watched<W>,
+    errors: &mut Watched<E>,
+) -> Status
+    ensures { IsDoneApart ⟦<FileFrom<S> as Disk>⟧ IsFresh ⟦<CopyFrom<S> as Disk>⟧ IsAsRead (image_at S.Start) W.contents
+        E.contents (R.remaining input.old) output.old output.new errors.old errors.new result (P.finds paths.now)
+        task.now (logged_run task.now) }
+{
+    let Some(run) = logged_run(task) else {
+        return do_by_input(rt, start, task, input, output, errors);
+    };
+    match log_apart(paths, &run) {
+        Ok(()) => do_by_input(rt, start, task, input, output, errors),
+        Err(failure) => reported(Err(failure), &run_files::paths_of(&run), errors),
     }
 }
 /// Does a task. The input is what the task reads in the place of the standard input, if it names a file for that.
@@ -133,8 +159,8 @@ fn do_task<S: Start, R: Read, W: Write, E: Write>(
         }
         Task::Account(path, asked) => show_account(rt, start, path, asked, output, errors),
         Task::Work(path, work) => work_in_file(rt, start, path, work, input, output, errors),
-        Task::InMemory { policy, lines } => {
-            run_without_file(rt, *policy, lines, input, output, errors)
+        Task::InMemory { policy, lines, log } => {
+            run_without_file(rt, *policy, lines, *log, input, output, errors)
         }
         Task::Digest => {
             let is_typed = is_typed(rt);
@@ -158,6 +184,22 @@ fn socket_of<'a>(work: &Work<'a>) -> Option<&'a str> {
         _ => None,
     }
 }
+/// The log that an operation writes to a file.
+fn log_of<'a>(work: &Work<'a>) -> Option<&'a str> {
+    match work {
+        Work::Run { log, .. } => *log,
+        // No other operation has one.
+        _ => None,
+    }
+}
+/// The folder into which an operation brings the policy.
+fn policies_of<'a>(work: &Work<'a>) -> Option<&'a str> {
+    match work {
+        Work::Serve(serve) => serve.policies,
+        // No other operation brings it anywhere.
+        _ => None,
+    }
+}
 /// The files that are named, if an operation is run over the database file at a path.
 fn paths_of<'a>(path: &'a str, work: &Work<'a>) -> Paths<'a> {
     let policy = match work {
@@ -169,6 +211,8 @@ fn paths_of<'a>(path: &'a str, work: &Work<'a>) -> Paths<'a> {
         database: Some(path),
         policy,
         socket: socket_of(work),
+        log: log_of(work),
+        policies: policies_of(work),
     }
 }
 /// Does a work over the tables of the database file at a path. An export that made the tables reports that.

@@ -6,6 +6,7 @@ use opc_cli_failures::status::Status;
 use opc_cli_program::lines::answer_lines_on;
 use opc_cli_program::log_stream::LogStream;
 use opc_cli_program::run::run_on;
+use opc_cli_program::wall_clock::WallClock;
 use opc_cli_questions::openings::Openings;
 use opc_io::sink::Sink;
 use opc_io::watched::Watched;
@@ -13,37 +14,41 @@ use opc_names::name::ConsoleName;
 use opc_store::store::Store;
 use opc_terms::fault::Fault;
 use std::io::{Read, Write};
-use std::rt::Clock;
 
-/// Takes the first policy, if one is named, and then runs the script on the input over new tables in memory.
+/// Opens the log and takes the first policy, if they are named, and then runs the script on the input over new tables
+/// in memory.
 pub fn run_in_memory<H: AllocGlobal + LogStream + Openings, R: Read, K: Sink>(
     rt: &H,
     policy: Option<&str>,
+    log: Option<&str>,
     input: &mut R,
     output: &mut K,
 ) -> Result<Status, Failure>
-    ensures ran { IsRunInMemory K.held K.has_failed (H.holds rt.now) policy.entry (R.remaining input.old) output.old
-        output.new result }
+    ensures ran { IsRunInMemory K.held K.has_failed (H.opens rt.now) H.LogFile.contents (H.holds rt.now) policy.entry
+        log.entry (R.remaining input.old) output.old output.new result }
 {
     match Store::in_memory(rt.alloc()) {
-        Ok(tables) => run_on(rt, tables, policy, input, output).0,
+        Ok(tables) => run_on(rt, tables, policy, log, input, output).0,
         Err(fault) => Err(Failure::from(Fault::from(fault))),
     }
 }
 
-/// Takes the first policy, if one is named, and then answers the lines on the input over new tables in memory.
-pub fn answer_lines_in_memory<H: AllocGlobal + Clock + LogStream + Openings, R: Read, W: Write>(
+/// Opens the log and takes the first policy, if they are named, and then answers the lines on the input over new tables
+/// in memory.
+pub fn answer_lines_in_memory<H: AllocGlobal + WallClock + LogStream + Openings, R: Read, W: Write>(
     rt: &H,
     policy: Option<&str>,
+    log: Option<&str>,
     console: &Option<ConsoleName>,
     input: &mut R,
     output: &mut Watched<W>,
 ) -> Result<Status, Failure>
     ensures answered { AreLinesInMemory (λ (w : Watched W). W.contents w.inner) (λ (w : Watched W). w.failed)
-        console.now (H.holds rt.now) policy.entry (R.remaining input.old) output.old output.new result }
+        H.shows_moment console.now (H.opens rt.now) H.LogFile.contents (H.holds rt.now) policy.entry log.entry
+        (R.remaining input.old) output.old output.new result }
 {
     match Store::in_memory(rt.alloc()) {
-        Ok(tables) => answer_lines_on(rt, tables, policy, console, input, output).0,
+        Ok(tables) => answer_lines_on(rt, tables, policy, log, console, input, output).0,
         Err(fault) => Err(Failure::from(Fault::from(fault))),
     }
 }

@@ -75,6 +75,8 @@ fn paths_of(path: &str) -> Paths<'_> {
         database: Some(path),
         policy: None,
         socket: None,
+        log: None,
+        policies: None,
     }
 }
 

@@ -1,7 +1,8 @@
 //! A service over a gate, with the number with which a program ends.
 ghost use Rattle.std.specs.Prelude.{◌≡◌};
 ghost use Rattle.opc_cli_failures.specs.Statuses.{number_of};
-ghost use Rattle.opc_http_connections.specs.Links.{Comes, source_of, link_of};
+ghost use Rattle.opc_http_connections.specs.Links.{link_of};
+ghost use Rattle.opc_http_serve.specs.Coming.{source_at};
 ghost use Rattle.opc_cli.specs.Calls.{IsService, status_of_service};
 
 use opc_cli_failures::status::Status;
@@ -30,8 +31,8 @@ where
     L::Stream: Connection,
     ensures sure { T.meaning.is_sure gate.new → T.meaning.is_sure gate.old }
     ensures served { IsService T.meaning gate.old gate.new routes.now
-        (source_of (link_of L.Stream.limits ⟦<H as Timer>⟧.shows L.Stream.reads L.Stream.remaining L.Stream.contents)
-        (Comes ⟦<L as ClientListener>⟧.accepts L.Stream.clones)) count result }
+        (source_at (link_of L.Stream.limits ⟦<H as Timer>⟧.shows L.Stream.reads L.Stream.remaining L.Stream.contents)
+        ⟦<L as ClientListener>⟧.accepts L.Stream.clones listener.now) count result }
 {
     number_of(serving::serve_on(rt, listener, count, None, routes, gate))
 }

@@ -10,3 +10,4 @@ mod Whole
 mod Digits
 mod Entering
 mod Exported
+mod WhoCounts

@@ -6,3 +6,4 @@ pub mod AccountLaws
 pub mod DigestLaws
 pub mod EnteringLaws
 pub mod ExportLaws
+pub mod CountingLaws

@@ -62,14 +62,16 @@ class Room:
         if kind == "file":
             with open(rest, "wb") as file:
                 file.write(input_in(check))
-        elif kind == "link":
+        elif kind in ("link", "symlink"):
             new, _, old = rest.partition(" ")
-            os.link(old, new)
+            (os.link if kind == "link" else os.symlink)(old, new)
         elif check.texts("rows"):
             found = "".join(asked(*text.split(" ", 1)) for text in check.texts("rows"))
             self.counts(check, [] if found == lines_in(check, ">") else [f"found {found!r}"])
         elif check.texts("absent"):
             self.counts(check, [f"there is {path}" for path in check.texts("absent") if os.path.lexists(path)])
+        elif check.texts("reads"):
+            self.counts(check, faults_of_file(check, *check.texts("reads")[0].split(" ", 1)))
         else:
             self.judge_run(check)
 
@@ -160,6 +162,15 @@ def faults_of_printed(check: Check, ran: Ran) -> list[str]:
     file = check.text(">=")
     wanted = bytes_of(file) if file is not None else lines_in(check, ">").encode()
     return [] if ran.printed == wanted else [f"{ran.printed[:300]!r} and not {wanted[:300]!r}"]
+
+
+def faults_of_file(check: Check, mode: str, path: str) -> list[str]:
+    """What is wrong with the permissions of a file, and with what it has."""
+    found = f"{os.stat(path).st_mode & 0o777:o}"
+    read = Ran(0, bytes_of(path), b"")
+    faults = [] if found == mode else [f"its permissions are {found}"]
+    printed = faults_of_printed(check, read) if check.texts(">", ">=") else []
+    return [*faults, *faults_of_pattern(check, read), *printed]
 
 
 def make(path: str, statements: str) -> None:

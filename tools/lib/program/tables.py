@@ -2,7 +2,7 @@
 import os
 from typing import Iterator, NamedTuple
 
-MARKS = ("$", "<", "<-", "<<", ">", ">>", ">=", "~", "~=", "!", "status", "made", "rows", "absent")
+MARKS = ("$", "<", "<-", "<<", ">", ">>", ">=", "~", "~=", "!", "status", "made", "rows", "absent", "reads")
 Lines = list[tuple[str, str]]  # marks with their texts
 Rows = dict[int, list[str]]  # by their lines the cells of rows
 
@@ -12,7 +12,7 @@ class BadTable(Exception):
 
 
 class Check(NamedTuple):
-    """What stands under one title, or under `file` or `link`, which make something ready."""
+    """What stands under one title, or under `file`, `link` or `symlink`, which make something ready."""
     place: str  # the table and its line; of a row of cells the line of the row
     title: str
     lines: Lines
@@ -30,7 +30,7 @@ class Check(NamedTuple):
 
     def is_ready(self) -> bool:
         """Whether it only makes ready what other checks need."""
-        return self.title.startswith(("(", "file ", "link "))
+        return self.title.startswith(("(", "file ", "link ", "symlink "))
 
     def filled(self, values: dict[str, str]) -> "Check":
         """The same with these values in the place of their names in braces."""

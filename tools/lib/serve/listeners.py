@@ -84,14 +84,15 @@ def sockets(tally: Tally, room: str, base: str) -> None:
 def permissions(tally: Tally, file: str, path: str) -> None:
     """Whatever the umask is, the file has the permissions that are asked for."""
     for umask in (0o000, 0o022, 0o077):
-        for words, wanted in (((), 0o600), (("--socket-mode", "660"), 0o660), (("--socket-mode", "0666"), 0o666)):
+        for mode in ("", "600", "0600", "660", "0660", "666", "0666"):
+            words, wanted = (("--socket-mode", mode), int(mode, 8)) if mode else ((), 0o600)
             was = os.umask(umask)
             try:
                 with Service(file, *words, socket=path):
                     found = os.lstat(path).st_mode
             finally:
                 os.umask(was)
-            title = f"umask {umask:03o}, permissions {wanted:o}"
+            title = f"umask {umask:03o}, permissions {mode or 'not given'}"
             tally.equal(title, (stat.S_ISSOCK(found), stat.S_IMODE(found)), (True, wanted))
             # (the service was killed, and its socket is left: the next one replaces it)
             tally.equal(f"{title}: its path afterwards", os.path.lexists(path), True)

@@ -100,6 +100,7 @@ LINES = [
     operation("C2", 'SECADM 200 - "Connect user=NEW group=DAY" -', op="Connect", user="NEW", group="DAY"),
     operation("C2", 'SECADM 200 - "Remove user=NEW group=DAY" -', op="Remove", user="NEW", group="DAY"),
     operation("C2", 'SECADM 200 - "DelUser id=NEW" -', op="DelUser", id="NEW"),
+    operation("C2", 'SECADM 409 E55 "DelUser id=ANNA" InUse ANNA', op="DelUser", id="ANNA"),
     operation("C2", f'SECADM 200 - "RDefine {SHOWN} owner=SECADM uacc=READ warning=true" -', op="RDefine", **PROFILE),
     operation("C2", f'SECADM 200 - "RAlter {SHOWN} owner=SECADM uacc=NONE warning=true" -', op="RAlter",
               **{**PROFILE, "uacc": "NONE"}),
@@ -158,7 +159,10 @@ SENT = {
     COMMAND + b"Transfer-Encoding: chunked\r\n\r\n": "- - 400 H400 - framing: Transfer-Encoding",
     COMMAND + b"Content-Length: x\r\n\r\n": "- - 400 H400 - framing: Content-Length",
     COMMAND + b"Content-Length: 9\r\n\r\n{": "- - 400 H400 - body: cut short",
+    COMMAND + b"Content-Length: 65537\r\n\r\n": "- - 413 H413 - -",
 }
+# how a database fails from the first sync on after a client was accepted
+SYNC_FAULT = {"FAULT_CALL": "sync", "FAULT_FROM": "1", "FAULT_AT": "1", "FAULT_TIMES": "0"}
 # moments and how they are written
 TIMES = {
     0: "1970-01-01T00:00:00Z",
@@ -223,6 +227,24 @@ def silent(tally: Tally, file: str) -> None:
     tally.equal("log: peers that close", lines[2:], list(SENT.values()))
 
 
+def foreign(tally: Tally, file: str) -> None:
+    """What a web page may have sent to a strict service."""
+    with Service(file, "--log", "--strict", "--count", "1") as service:
+        clients.sent(service.port, COMMAND + b"Origin: http://room\r\nContent-Length: 14\r\n\r\n" + b'{"text":"D U"}')
+        _, _, said = service.ended()
+    tally.equal("log: a web page", said.partition(" ")[2], "- - 403 H403 - -\n")
+
+
+def unloaded(tally: Tally, room: str, file: str) -> None:
+    """Once the database has failed, nobody knows who is on."""
+    with Service(file, "--log", "--count", "2", LD_PRELOAD=preload(room), **SYNC_FAULT) as service:
+        for console in ("C9", "C1"):
+            clients.by_socket(service.port, "POST", f"/consoles/{console}/command", b'{"text":"D U"}')
+        _, _, said = service.ended()
+    lines = [line.partition(" ")[2] for line in said.splitlines()[:2]]
+    tally.equal("log: a database that fails", lines, ['C9 - 500 E91 "D U" -', 'C1 ? 500 E91 "D U" -'])
+
+
 def unwritten(tally: Tally, room: str, file: str) -> None:
     """Where no line can be written, all is answered, and kept, as without a log."""
     wanted, kept = [], []
@@ -249,6 +271,8 @@ def logs(tally: Tally, room: str, base: str) -> None:
     shape(tally, shutil.copy(base, f"{room}/shape"))
     times(tally, room, shutil.copy(base, f"{room}/times"))
     silent(tally, shutil.copy(base, f"{room}/silent"))
+    foreign(tally, shutil.copy(base, f"{room}/foreign"))
+    unloaded(tally, room, shutil.copy(base, f"{room}/unloaded"))
     unwritten(tally, room, base)
     with Service(shutil.copy(base, f"{room}/quiet"), "--count", "1") as service:
         clients.by_socket(service.port, "POST", "/consoles/C2/command", b'{"text":"D U"}')

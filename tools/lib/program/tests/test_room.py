@@ -113,6 +113,18 @@ class Runs(unittest.TestCase):
         self.assertEqual(self.judged(("absent", path)), (0, 1))
         self.assertEqual(self.judged(("absent", f"{path}-none")), (1, 0))
 
+    def test_a_file(self) -> None:
+        path = f"{self.folder}/log"
+        with open(path, "w", encoding="ascii") as file:
+            file.write("one\ntwo\n")
+        os.chmod(path, 0o600)
+        reads = ("reads", f"600 {path}")
+        self.assertEqual(self.judged(reads, (">", "one"), (">", "two")), (1, 0))
+        self.assertEqual(self.judged(reads, (">", "one")), (0, 1))
+        self.assertEqual(self.judged(reads, ("~", "^two$")), (1, 0))
+        self.assertEqual(self.judged(reads, ("~", "three")), (0, 1))
+        self.assertEqual(self.judged(("reads", f"644 {path}"), (">", "one"), (">", "two")), (0, 1))
+
     def row(self, line: int) -> tuple[int, int, str]:
         """How many checks of a line of ROWS passed and failed, and what was printed."""
         said = io.StringIO()

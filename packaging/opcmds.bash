@@ -19,8 +19,8 @@ _opcmds() {
         who) options='--command --as --resource --level --class --console --json --allowed --policy --db --help' ;;
         explain) options='--user --command --as --resource --level --class --console --json --why --policy --db --help' ;;
         check) options='--policy --db --allow --json --help' ;;
-        run) options='--db --policy --now --console --help' ;;
-        serve) options='--db --port --socket --socket-mode --strict --count --timeout --log --help' ;;
+        run) options='--db --policy --now --console --log --help' ;;
+        serve) options='--db --port --socket --socket-mode --strict --count --timeout --log --policies --help' ;;
         account) options='--db --from --last --count --since --until --user --console --code --json --help' ;;
         import) options='--db --batch --console --help' ;;
         export) options='--db --help' ;;
@@ -39,10 +39,10 @@ _opcmds() {
         "explain --user" | "explain --command" | "explain --as" | "explain --resource" | "explain --console") return ;;
         "check --allow") mapfile -t COMPREPLY < <(compgen -W 'N01 N02 N03 N04 N05 N06 N08 N09 N10 N11 N12 N13 N14 N15 N16 N17 N18 N19' -- "$word"); return ;;
         "check --policy" | "check --db") compopt -o filenames; mapfile -t COMPREPLY < <(compgen -f -- "$word"); return ;;
-        "run --db" | "run --policy") compopt -o filenames; mapfile -t COMPREPLY < <(compgen -f -- "$word"); return ;;
+        "run --db" | "run --policy" | "run --log") compopt -o filenames; mapfile -t COMPREPLY < <(compgen -f -- "$word"); return ;;
         "run --console") return ;;
         "serve --socket-mode") mapfile -t COMPREPLY < <(compgen -W '600 660 666' -- "$word"); return ;;
-        "serve --db" | "serve --socket") compopt -o filenames; mapfile -t COMPREPLY < <(compgen -f -- "$word"); return ;;
+        "serve --db" | "serve --socket" | "serve --policies") compopt -o filenames; mapfile -t COMPREPLY < <(compgen -f -- "$word"); return ;;
         "serve --port" | "serve --count" | "serve --timeout") return ;;
         "account --code") mapfile -t COMPREPLY < <(compgen -W 'E01 E02 E03 E04 E05 E06 E10 E11 E12 E13 E14 E15 E16 E17 E20 E21 E30 E31 E32 E33 E34 E35 E36 E37 E38 E39 E40 E41 E42 E45 E50 E51 E52 E53 E55 E56 E57 E60 E90 E91 E92 WARN' -- "$word"); return ;;
         "account --db") compopt -o filenames; mapfile -t COMPREPLY < <(compgen -f -- "$word"); return ;;

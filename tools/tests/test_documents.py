@@ -170,7 +170,7 @@ class Documents(unittest.TestCase):
         index = QUOTED.findall(text_of(f"{TOP}/docs/promises.md"))
         quoted = QUOTED.findall(BLOCK.sub("", text_of(f"{TOP}/docs/PROVED.md")))
         paths = [it for it in quoted if re.search(r"\w::\w", it)]
-        self.assertGreater(len(paths), 80)
+        self.assertGreater(len(paths), 40)
         self.assertEqual([path for path in paths if not any(f"::{it}".endswith(f"::{path}") for it in index)], [])
 
     def test_readme_shows_stored_runs(self) -> None:

@@ -1,7 +1,8 @@
 /* A preload that refuses the N-th call of one kind, or ends the process there, in a program that is linked to the C
    library; the program is not rebuilt.
 
-   FAULT_CALL   alloc | read | write | sync | any-write (write, pwrite, send, sync, truncate, unlink, rename) | accept;
+   FAULT_CALL   alloc | read | write | sync | any-write (write, pwrite, send, sync, truncate, unlink, rename, link)
+                | accept;
                 or `every`: no call is refused, and all are counted
    FAULT_FILE   a path: calls on that file alone are counted (unset: all calls of that kind)
    FAULT_AT     the call that is refused, counted from 1 (0 or unset: none; the calls are counted all the same)
@@ -227,6 +228,8 @@ CALL(WRITE, file, ssize_t, send, (int file, const void *bytes, size_t size, int 
 CHANGE(int, ftruncate, (int file, off_t size), (file, size), NULL, 0, size)
 CHANGE(int, ftruncate64, (int file, off64_t size), (file, size), NULL, 0, size)
 CALL(WRITE, -1, int, rename, (const char *path, const char *to), (path, to))
+CALL_FROM(0, WRITE, -1, int, link, (const char *path, const char *to), (path, to), ,
+          if (is_losing && !result) note_made(to))
 FLUSH(fsync)
 FLUSH(fdatasync)
 

@@ -10,7 +10,8 @@ from lib import clients
 from lib.files import Ran, bytes_of, script, tables, tables_alone
 
 LINE = re.compile(r"(?m)^(Exec\w+)=-?(.*)$")
-FILE, SOCKET = "opcmds/gate.db", "opcmds/http.sock"  # in the folders of the unit's state and of its socket
+# in the folders of the unit's state and of its socket
+FILE, STATES, SOCKET = "opcmds/gate.db", "opcmds/policies", "opcmds/http.sock"
 # after a logon a line for the log, and a refusal with its row of the account
 TEXTS = ("LOGON ANNA,ABC", "L 'a line'", "C PAYROLL")
 KEPT = [1, 1]  # what they leave of the account and the log
@@ -40,7 +41,7 @@ def left_after(number: int, path: str, folder: str) -> Left:
     with this number while it waits."""
     commands = commands_in(bytes_of(path).decode(), folder)
     file, socket = f"{folder}/{FILE}", f"{folder}/{SOCKET}"
-    os.makedirs(os.path.dirname(file))
+    os.makedirs(f"{folder}/{STATES}")
     script([], file)
     how = {"stdin": subprocess.DEVNULL, "stdout": subprocess.DEVNULL, "stderr": subprocess.DEVNULL}
     with subprocess.Popen(commands["ExecStart"], **how) as service:

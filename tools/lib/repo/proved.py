@@ -18,11 +18,11 @@ CODES = re.compile(r" \(E\d[^)]*\)")
 # Where a sentence may end before its end: what follows only explains.
 ENDS = re.compile(r"; |: |, (?:so|which|as|since) ")
 # Where a long one breaks off: what follows says more.
-BREAKS = re.compile(r",? (?:and|unless|or) ")
+BREAKS = re.compile(r",? (?:and(?! only)|unless|or) ")
 # A sentence of fewer words than SHORT gets the next one, and none ends before it has LEAST.
 SHORT, LEAST = 6, 7
 # A sentence of more words than LONG breaks off, and none does before it has ENOUGH.
-LONG, ENOUGH = 17, 11
+LONG, ENOUGH = 12, 8
 # Words as long as those that count, which say nothing of their own.
 PLAIN = {*"that which what whose there with from have where they this each none them only other after".split()}
 PLAIN |= {"before", "these", "those"}
@@ -85,13 +85,14 @@ def sentence_of(remarks: list[str]) -> str:
     return "".join([first, *more[:1]]) if len(first.split()) < SHORT else first
 
 
-def brief(sentence: str) -> str:
-    """A sentence up to its first natural end, without the codes of faults; a long one up to where it says more."""
+def brief(sentence: str, most: int = LONG, enough: int = ENOUGH) -> str:
+    """A sentence up to its first natural end, without the codes of faults; one of more than so many words up to where
+    it says more."""
     plain = CODES.sub("", sentence)
     ends = (it.start() for it in ENDS.finditer(plain))
     said = next((f"{plain[:end]}." for end in ends if len(plain[:end].split()) >= LEAST), plain)
-    breaks = (it.start() for it in BREAKS.finditer(said)) if len(said.split()) > LONG else ()
-    return next((f"{said[:at]} .." for at in breaks if len(said[:at].split()) >= ENOUGH), said)
+    breaks = (it.start() for it in BREAKS.finditer(said)) if len(said.split()) > most else ()
+    return next((f"{said[:at]} .." for at in breaks if len(said[:at].split()) >= enough), said)
 
 
 def remarks_above(lines: list[str], at: int) -> list[str]:

@@ -12,6 +12,8 @@ PYTHON = "#!/usr/bin/env python3\n"
 SENTENCE = re.compile(r"(?s).*?\.(?=\s|$)")
 # A call with more words than these is shown without them.
 MOST_WORDS = 4
+# A sentence of more words than MOST breaks off, and none does before it has ENOUGH.
+MOST, ENOUGH = 17, 11
 HOW_LONG = re.compile(r"(?s)\bHow\s+long:\s(.*?)\.(?=\s|$)")
 PAGE = """\
 # The tools
@@ -21,7 +23,7 @@ prints the whole head: all forms of the call, the options, and what a failure lo
 
 Run the tools at the top of the repository. The last line of a tool that tests is `N passed, M failed`, and its \
 status is 0 if M is 0. Most failures are a line with the title of the check, `no, but` and the actual result. Times \
-are rough, and differ between computers.
+are rough.
 
 The parts of `tools/NAME` are in `tools/lib/NAME`, what several tools use in `tools/lib`, and tests in a folder \
 `tests` beside them.
@@ -82,7 +84,7 @@ def tools() -> list[Tool]:
 
 
 def table_of(rows: list[Tool]) -> str:
-    cells = [(f"`{it.call}`", brief(it.sentence), it.how_long) for it in rows]
+    cells = [(f"`{it.call}`", brief(it.sentence, MOST, ENOUGH), it.how_long) for it in rows]
     lines = ["| " + " | ".join(cell.replace("|", r"\|") for cell in row) + " |" for row in cells]
     return "\n".join(["| Tool | What it does | How long |", "|---|---|---|", *lines])
 

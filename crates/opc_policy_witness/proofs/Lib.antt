@@ -1,0 +1,10 @@
+pub mod Between
+pub mod Covering
+pub mod Joining
+pub mod Leading
+pub mod Names
+pub mod Placing
+pub mod Products
+pub mod Sizes
+pub mod Spreading
+pub mod Starting

@@ -1,0 +1,4 @@
+pub mod Forms
+pub mod Masks
+pub mod Pieces
+pub mod Witness

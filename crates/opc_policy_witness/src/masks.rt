@@ -1,0 +1,81 @@
+//! What patterns ask of each place of a name.
+ghost use Rattle.std.specs.Prelude.{◌≡◌, ◌||◌, [], IfOk, map};
+ghost use Rattle.std.specs.List.{list_any};
+ghost use Rattle.std.specs.Option.{option_map};
+ghost use Rattle.opc_policy_witness.specs.Masks.{after, asks_for, fits, fits_one, left_after};
+
+use std::alloc::{AllocError, Global};
+
+/// For each place of a name the character that has to stand there, or none if any may.
+pub(crate) type Mask<'a> = &'a [Option<u8>];
+
+/// What is left of a mask after a character, if that fits its first place.
+fn left_after(mask: Mask<'_>, character: u8) -> Option<Mask<'_>>
+    ensures { option_map (λ left. left.now) result ≡ left_after character mask.now }
+{
+    match mask {
+        [] => None,
+        [None, rest @ ..] => Some(rest),
+        [Some(asked), rest @ ..] if *asked == character => Some(rest),
+        // It asks for another character.
+        _ => None,
+    }
+}
+
+/// What is left of these masks after a character: of each that it fits, the places behind.
+pub(crate) fn after<'a>(
+    alloc: Global,
+    masks: &[Mask<'a>],
+    character: u8,
+) -> Result<Vec<Mask<'a>>, AllocError>
+    ensures { IfOk result (λ left. map (λ mask. mask.now) left.items
+        ≡ after character (map (λ mask. mask.now) masks.now)) }
+{
+    let mut left = Vec::new(alloc);
+    for mask in masks {
+        if let Some(rest) = left_after(mask, character) {
+            left.push(rest)?;
+        }
+    }
+    Ok(left)
+}
+
+fn asks_for(mask: Mask<'_>, character: u8) -> bool
+    ensures { result ≡ asks_for character mask.now }
+{
+    match mask {
+        [Some(asked), ..] => *asked == character,
+        // It has no place, or any character may stand there.
+        _ => false,
+    }
+}
+
+/// Whether one of these masks asks for this character first.
+pub(crate) fn ask_for(masks: &[Mask<'_>], character: u8) -> bool
+    ensures { result ≡ list_any (asks_for character) (map (λ mask. mask.now) masks.now) }
+{
+    match masks {
+        [] => false,
+        [mask, rest @ ..] => asks_for(mask, character) || ask_for(rest, character),
+    }
+}
+
+/// Whether a mask has no place left.
+pub(crate) fn is_over(mask: Mask<'_>) -> bool
+    ensures { result ≡ fits mask.now [] }
+{
+    match mask {
+        [] => true,
+        [_, ..] => false,
+    }
+}
+
+/// Whether one of these masks has no place left.
+pub(crate) fn one_is_over(masks: &[Mask<'_>]) -> bool
+    ensures { result ≡ fits_one (map (λ mask. mask.now) masks.now) [] }
+{
+    match masks {
+        [] => false,
+        [mask, rest @ ..] => is_over(mask) || one_is_over(rest),
+    }
+}

@@ -44,11 +44,7 @@ fn most_specific<'a>(
 }
 
 /// The profile that decides, if the class is active and a profile covers the resource.
-pub(crate) fn deciding<'a>(
-    policy: &'a Policy,
-    class: Class,
-    resource: &Resource,
-) -> Option<&'a Profile>
+pub fn deciding<'a>(policy: &'a Policy, class: Class, resource: &Resource) -> Option<&'a Profile>
     ensures { option_copied result ≡ decider policy.entry.now class resource.now }
 {
     if !policy.active.contains(class) {
@@ -58,7 +54,7 @@ pub(crate) fn deciding<'a>(
 }
 
 /// A copy of it.
-pub(crate) fn decider(
+pub fn decider(
     policy: &Policy,
     class: Class,
     resource: &Resource,

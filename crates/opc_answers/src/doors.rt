@@ -15,7 +15,7 @@ use std::alloc::{AllocError, Global};
 
 /// Where users can log on: at the consoles of the board, or at one of them; or that does not count.
 #[derive(Drop)]
-pub(crate) enum Doors<'a> {
+pub enum Doors<'a> {
     All(Vec<Door<'a>>),
     One(Door<'a>),
     Uncounted,
@@ -23,7 +23,7 @@ pub(crate) enum Doors<'a> {
 
 impl Doors<'_> {
     /// Why a user cannot log on there.
-    pub(crate) fn no_logon(&self, member: &UserWithGroups) -> Option<NoLogon>
+    pub fn no_logon(&self, member: &UserWithGroups) -> Option<NoLogon>
         ensures { result ≡ no_logon_by self.now member.now }
     {
         match self {
@@ -34,7 +34,7 @@ impl Doors<'_> {
     }
 
     /// The line of a user, with why the user cannot log on, unless it denies anyway.
-    pub(crate) fn unless_on(&self, member: &UserWithGroups, line: UserLine) -> UserLine
+    pub fn unless_on(&self, member: &UserWithGroups, line: UserLine) -> UserLine
         ensures { result ≡ unless_on (no_logon_by self.now member.now) line }
     {
         if is_denied(&line.ruling) {
@@ -64,7 +64,7 @@ fn all_doors<'a>(
 }
 
 /// Those that count for where the question is asked.
-pub(crate) fn doors_at<'a>(
+pub fn doors_at<'a>(
     alloc: Global,
     policy: &'a Policy,
     board: &Board,

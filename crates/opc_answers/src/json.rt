@@ -41,7 +41,7 @@ use serde_json::{Value, json};
 use std::alloc::{AllocError, Global};
 
 /// A value as a line.
-pub(crate) fn json_line(alloc: Global, value: &Value) -> Result<String, AllocError>
+pub fn json_line(alloc: Global, value: &Value) -> Result<String, AllocError>
     requires { has_float (view value.now) ≡ false }
     ensures { IfOk result (λ text. string_bytes text ≡ json_line (view value.now)) }
 {
@@ -50,7 +50,8 @@ pub(crate) fn json_line(alloc: Global, value: &Value) -> Result<String, AllocErr
     Ok(text)
 }
 
-pub(crate) fn text_or_null(alloc: Global, text: Option<&str>) -> Result<Value, AllocError>
+/// The text, or `null`.
+pub fn text_or_null(alloc: Global, text: Option<&str>) -> Result<Value, AllocError>
     ensures { IfOk result (λ value. view value ≡ text_or_null (option_copied text.entry)) }
 {
     match text {
@@ -85,7 +86,8 @@ pub(crate) fn taken_value(alloc: Global, wanted: &Wanted) -> Result<Value, Alloc
     Value::try_from_str(alloc, words.as_str())
 }
 
-fn pattern_value(alloc: Global, decided: &Option<Profile>) -> Result<Value, AllocError>
+/// The pattern of the profile that decides, or `null`.
+pub fn pattern_value(alloc: Global, decided: &Option<Profile>) -> Result<Value, AllocError>
     ensures { IfOk result (λ value. view value ≡ text_or_null (option_map (λ (p : Profile). p.pattern) decided.now)) }
 {
     match decided {
@@ -94,7 +96,8 @@ fn pattern_value(alloc: Global, decided: &Option<Profile>) -> Result<Value, Allo
     }
 }
 
-fn uacc_value(alloc: Global, decided: &Option<Profile>) -> Result<Value, AllocError>
+/// Its level for everybody, or `null`.
+pub fn uacc_value(alloc: Global, decided: &Option<Profile>) -> Result<Value, AllocError>
     ensures { IfOk result (λ value. view value
         ≡ text_or_null (option_map (λ (p : Profile). level_text p.uacc) decided.now)) }
 {
@@ -136,7 +139,8 @@ fn asked_value(
     })
 }
 
-fn held_value(alloc: Global, held: &Option<HeldLevel>) -> Result<Value, AllocError>
+/// The level held, or `null` if none was looked up.
+pub fn held_value(alloc: Global, held: &Option<HeldLevel>) -> Result<Value, AllocError>
     ensures { IfOk result (λ value. view value ≡ text_or_null (held_words held.now)) }
 {
     match held {
@@ -145,7 +149,8 @@ fn held_value(alloc: Global, held: &Option<HeldLevel>) -> Result<Value, AllocErr
     }
 }
 
-fn source_value(alloc: Global, held: &Option<HeldLevel>) -> Result<Value, AllocError>
+/// Where the level comes from, or `null`.
+pub fn source_value(alloc: Global, held: &Option<HeldLevel>) -> Result<Value, AllocError>
     ensures { IfOk result (λ value. view value ≡ text_or_null (source_words held.now)) }
 {
     let Some(held) = held else {
@@ -157,7 +162,7 @@ fn source_value(alloc: Global, held: &Option<HeldLevel>) -> Result<Value, AllocE
 }
 
 /// The only console that the entry is for.
-fn place_value(alloc: Global, held: &Option<HeldLevel>) -> Result<Value, AllocError>
+pub fn place_value(alloc: Global, held: &Option<HeldLevel>) -> Result<Value, AllocError>
     ensures { IfOk result (λ value. view value ≡ text_or_null (place_words held.now)) }
 {
     let Some(held) = held else {
@@ -169,7 +174,8 @@ fn place_value(alloc: Global, held: &Option<HeldLevel>) -> Result<Value, AllocEr
     }
 }
 
-fn ruling_value(alloc: Global, ruling: &Option<Ruling>) -> Result<Value, AllocError>
+/// The rule of a ruling, or `null`.
+pub fn ruling_value(alloc: Global, ruling: &Option<Ruling>) -> Result<Value, AllocError>
     ensures { IfOk result (λ value. view value ≡ text_or_null (ruling_words ruling.now)) }
 {
     let Some(ruling) = ruling else {
@@ -180,7 +186,7 @@ fn ruling_value(alloc: Global, ruling: &Option<Ruling>) -> Result<Value, AllocEr
 }
 
 /// The rule that decided, or what is said in its place.
-fn rule_value(
+pub fn rule_value(
     alloc: Global,
     ruling: &Option<Ruling>,
     instead: &Option<Instead>,
@@ -197,7 +203,8 @@ fn rule_value(
     }
 }
 
-fn user_value(alloc: Global, line: &UserLine) -> Result<Value, AllocError>
+/// The object of the line of a user.
+pub fn user_value(alloc: Global, line: &UserLine) -> Result<Value, AllocError>
     ensures { IfOk result (λ value. view value ≡ user_value line.now) }
 {
     let place = place_value(alloc, &line.held)?;

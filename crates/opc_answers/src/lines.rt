@@ -97,7 +97,7 @@ fn line_of(
 }
 
 /// The line of a user with these groups.
-pub(crate) fn member_line(
+pub fn member_line(
     decided: Option<&Profile>,
     console: Option<&ConsoleName>,
     needed: Level,
@@ -125,7 +125,7 @@ fn ruling_or(console: &ConsoleRow, need: &Need, ruling: Option<Ruling>) -> Rulin
 }
 
 /// At a console of the board a command that no profile decides is decided by the console's authority.
-pub(crate) fn or_authority(console: &ConsoleRow, need: &Need, line: &UserLine) -> UserLine
+pub fn or_authority(console: &ConsoleRow, need: &Need, line: &UserLine) -> UserLine
     ensures { result ≡ or_authority console.now need.now line.now }
 {
     UserLine {
@@ -159,7 +159,7 @@ fn or_admitted(line: &UserLine) -> UserLine
 }
 
 /// The line of a user who logs on: nobody without a digest may.
-pub(crate) fn logon_line(user: &User, line: &UserLine) -> UserLine
+pub fn logon_line(user: &User, line: &UserLine) -> UserLine
     ensures { result ≡ logon_line user.now line.now }
 {
     if user.digest.is_none() {
@@ -174,7 +174,7 @@ pub(crate) fn logon_line(user: &User, line: &UserLine) -> UserLine
 }
 
 /// Whether a ruling denies.
-pub(crate) fn is_denied(ruling: &Option<Ruling>) -> bool
+pub fn is_denied(ruling: &Option<Ruling>) -> bool
     ensures { result ≡ is_denied ruling.now }
 {
     match ruling {
@@ -203,7 +203,7 @@ pub(crate) fn ruling_with(
 }
 
 /// The ruling on a LOGON of this user at a console, if the password is the one that is stored.
-pub(crate) fn logon_ruling(
+pub fn logon_ruling(
     alloc: Global,
     room: &Room,
     console: &ConsoleRow,

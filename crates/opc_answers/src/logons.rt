@@ -39,7 +39,7 @@ pub enum Instead {
 }
 
 /// The reason why a user cannot log on, in the place of a ruling, if there is one.
-pub(crate) fn off_for(no_logon: Option<NoLogon>) -> Option<Instead>
+pub fn off_for(no_logon: Option<NoLogon>) -> Option<Instead>
     ensures { result ≡ option_map Off no_logon }
 {
     match no_logon {
@@ -50,7 +50,7 @@ pub(crate) fn off_for(no_logon: Option<NoLogon>) -> Option<Instead>
 
 /// A console, and the profile that decides who may log on there.
 #[derive(Drop)]
-pub(crate) struct Door<'a> {
+pub struct Door<'a> {
     console: ConsoleRow,
     profile: Option<&'a Profile>,
 }
@@ -65,7 +65,7 @@ impl<'a> Model for Door<'a> {
 }
 
 /// The resource of a console in class CONSOLE.
-pub(crate) fn resource_of(name: &ConsoleName) -> Resource
+pub fn resource_of(name: &ConsoleName) -> Resource
     ensures { result ≡ name.now }
 {
     name.as_kind()
@@ -127,7 +127,7 @@ impl<'a> Door<'a> {
     ghost use Rattle.opc_answers.specs.Logons.{door_of, no_logon, refusal};
 
     /// The door of a console.
-    pub(crate) fn of(policy: &'a Policy, console: &ConsoleRow) -> Self
+    pub fn of(policy: &'a Policy, console: &ConsoleRow) -> Self
         ensures { result ≡ door_of policy.entry.now console.now }
     {
         let resource = resource_of(&console.name);
@@ -151,7 +151,7 @@ impl<'a> Door<'a> {
     }
 
     /// Why a user cannot log on.
-    pub(crate) fn no_logon(&self, member: &UserWithGroups) -> Option<NoLogon>
+    pub fn no_logon(&self, member: &UserWithGroups) -> Option<NoLogon>
         ensures { result ≡ no_logon self.now member.now }
     {
         if acts_for(&self.console, member) {
@@ -182,7 +182,7 @@ fn is_let_on(member: &UserWithGroups, doors: &[Door<'_>]) -> bool
 }
 
 /// That a user can log on at none of some consoles.
-pub(crate) fn nowhere(member: &UserWithGroups, doors: &[Door<'_>]) -> Option<NoLogon>
+pub fn nowhere(member: &UserWithGroups, doors: &[Door<'_>]) -> Option<NoLogon>
     ensures { result ≡ nowhere member.now doors.now }
 {
     if is_let_on(member, doors) {

@@ -22,9 +22,9 @@ use std::collections::BTreeSet;
 
 /// A user, and the groups that the user is connected to, in order.
 #[derive(Drop)]
-pub(crate) struct UserWithGroups {
-    pub(crate) user: User,
-    pub(crate) groups: Rows<GroupName>,
+pub struct UserWithGroups {
+    pub user: User,
+    pub groups: Rows<GroupName>,
 }
 
 /// Keeps the connect of a row.
@@ -52,7 +52,7 @@ fn connects_in_order(
 }
 
 /// The connects that rows make, in the order of users, then groups.
-pub(crate) fn connects_made(alloc: Global, rows: &[Row]) -> Result<Vec<Connect>, AllocError>
+pub fn connects_made(alloc: Global, rows: &[Row]) -> Result<Vec<Connect>, AllocError>
     ensures connects { IfOk result (λ list. list.items ≡ connects_after rows.now []) }
     ensures in_order { IfOk result (λ list. IsStrictlySortedBy connect_cmp list.items) }
 {
@@ -118,7 +118,7 @@ fn groups_in(
 }
 
 /// Each of these users with the groups of the user.
-pub(crate) fn members_made(
+pub fn members_made(
     alloc: Global,
     users: &[User],
     connects: &[Connect],

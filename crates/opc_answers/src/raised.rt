@@ -43,7 +43,7 @@ fn is_named_by(decided: Option<&Profile>, line: Option<&Profile>, console: &Cons
 }
 
 /// The consoles that entries of the profiles that decide are for: about a command, and about its line.
-pub(crate) fn named(
+pub fn named(
     alloc: Global,
     decided: Option<&Profile>,
     line: Option<&Profile>,
@@ -62,7 +62,7 @@ pub(crate) fn named(
 }
 
 /// Whether an entry for one console alone gives the level.
-pub(crate) fn is_raised(line: &UserLine) -> bool
+pub fn is_raised(line: &UserLine) -> bool
     ensures { result ≡ is_raised line.now }
 {
     match line.held {

@@ -21,9 +21,9 @@ use std::collections::BTreeMap;
 /// A policy, its users in order with their groups, and a board with its consoles: by which a question is answered.
 #[derive(Drop)]
 pub struct Room {
-    pub(crate) policy: Policy,
-    pub(crate) members: Rows<UserWithGroups>,
-    pub(crate) board: Board,
+    pub policy: Policy,
+    pub members: Rows<UserWithGroups>,
+    pub board: Board,
 }
 
 /// Keeps the user of a row, in the place of one with its id.

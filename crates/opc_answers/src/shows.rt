@@ -24,7 +24,7 @@ pub struct Shows {
 
 /// What is said of a command and of its line: the ruling of either, or that the line is hidden.
 #[derive(Clone, Copy)]
-pub(crate) enum Said {
+pub enum Said {
     OfCommand,
     OfLine,
     Hidden,
@@ -49,7 +49,7 @@ fn doubt_of(ruling: &Option<Ruling>) -> u8
 }
 
 /// Which of two rulings is said: of two that say as much, the line's.
-pub(crate) fn said_of(command: &Option<Ruling>, line: &Option<Ruling>) -> Said
+pub fn said_of(command: &Option<Ruling>, line: &Option<Ruling>) -> Said
     ensures { result ≡ said_of command.now line.now }
 {
     if is_denied(command) {

@@ -34,7 +34,7 @@ use opc_terms::rule::Rule;
 use std::alloc::{AllocError, Global};
 
 /// The word for a ruling; what only a warning lets pass has a word of its own.
-pub(crate) fn ruling_word(ruling: &Ruling) -> &'static str
+pub fn ruling_word(ruling: &Ruling) -> &'static str
     ensures text { result.now ≡ ruling_word ruling.now }
     ensures ascii { IsAscii result.now }
     ensures short { length result.now ≤ 1000 }
@@ -47,7 +47,7 @@ pub(crate) fn ruling_word(ruling: &Ruling) -> &'static str
 }
 
 /// The word for what replaces a ruling.
-pub(crate) fn instead_word(instead: &Instead) -> &'static str
+pub fn instead_word(instead: &Instead) -> &'static str
     ensures text { result.now ≡ instead_word instead.now }
     ensures ascii { IsAscii result.now }
     ensures short { length result.now ≤ 1000 }
@@ -60,7 +60,7 @@ pub(crate) fn instead_word(instead: &Instead) -> &'static str
 }
 
 /// The word for a user: that of the ruling, or of what replaces it.
-pub(crate) fn verdict_word(ruling: &Option<Ruling>, instead: &Option<Instead>) -> &'static str
+pub fn verdict_word(ruling: &Option<Ruling>, instead: &Option<Instead>) -> &'static str
     ensures text { result.now ≡ verdict_word ruling.now instead.now }
     ensures ascii { IsAscii result.now }
     ensures short { length result.now ≤ 1000 }
@@ -73,7 +73,7 @@ pub(crate) fn verdict_word(ruling: &Option<Ruling>, instead: &Option<Instead>) -
 }
 
 /// Why a user cannot log on.
-pub(crate) fn no_logon_text(alloc: Global, no_logon: &NoLogon) -> Result<String, AllocError>
+pub fn no_logon_text(alloc: Global, no_logon: &NoLogon) -> Result<String, AllocError>
     ensures { IfOk result (λ text. string_bytes text ≡ no_logon_text no_logon.now) }
 {
     match no_logon {
@@ -84,11 +84,7 @@ pub(crate) fn no_logon_text(alloc: Global, no_logon: &NoLogon) -> Result<String,
 }
 
 /// Why it is said, if it is not for the rule that decided.
-pub(crate) fn instead_text(
-    alloc: Global,
-    instead: &Instead,
-    rule: &Rule,
-) -> Result<String, AllocError>
+pub fn instead_text(alloc: Global, instead: &Instead, rule: &Rule) -> Result<String, AllocError>
     ensures { IfOk result (λ text. string_bytes text ≡ instead_text instead.now (rule_text rule.now)) }
 {
     match instead {
@@ -153,7 +149,8 @@ fn user_columns(
     format!(in alloc; "{verdict:<7} {id:<8} {level:<7} {ground}\n")
 }
 
-fn user_text(alloc: Global, line: &UserLine) -> Result<String, AllocError>
+/// The line of a user.
+pub fn user_text(alloc: Global, line: &UserLine) -> Result<String, AllocError>
     ensures { IfOk result (λ text. string_bytes text ≡ user_text line.now) }
 {
     let ground = ground_text(alloc, line)?;
@@ -193,7 +190,7 @@ fn console_columns(
 }
 
 /// What is said of a console in a word.
-pub(crate) fn console_word(line: &ConsoleLine) -> &'static str
+pub fn console_word(line: &ConsoleLine) -> &'static str
     ensures text { result.now ≡ console_word line.now }
     ensures ascii { IsAscii result.now }
     ensures short { length result.now ≤ 1000 }
@@ -212,7 +209,8 @@ fn console_text(alloc: Global, line: &ConsoleLine) -> Result<String, AllocError>
     console_columns(alloc, verdict, line.name.text(), actor, rule.as_str())
 }
 
-pub(crate) fn is_allowed(ruling: &Ruling) -> bool
+/// Whether a ruling allows.
+pub fn is_allowed(ruling: &Ruling) -> bool
     ensures { result ≡ is_allowed ruling.now }
 {
     match ruling {
@@ -222,7 +220,7 @@ pub(crate) fn is_allowed(ruling: &Ruling) -> bool
 }
 
 /// Whether the user may, and can log on.
-pub(crate) fn may(line: &UserLine) -> bool
+pub fn may(line: &UserLine) -> bool
     ensures { result ≡ may line.now }
 {
     match (&line.instead, &line.ruling) {

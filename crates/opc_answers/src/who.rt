@@ -35,7 +35,7 @@ use std::alloc::{AllocError, Global};
 /// Where the question is asked: wherever users are logged on, at a console of the board, or at one of which only the
 /// name is known.
 #[derive(Clone, Copy)]
-pub(crate) enum AskedAt {
+pub enum AskedAt {
     Everywhere,
     OnBoard(ConsoleRow),
     Named(ConsoleName),
@@ -58,7 +58,7 @@ impl AskedAt {
     ghost use Rattle.opc_answers.specs.Who.{command_at, name_of};
 
     /// The name of the console.
-    fn name(&self) -> Option<&ConsoleName>
+    pub fn name(&self) -> Option<&ConsoleName>
         ensures { option_copied result ≡ name_of self.entry.now }
     {
         match self {
@@ -294,7 +294,7 @@ impl Who {
 }
 
 /// The console of this name, if it is on the board.
-pub(crate) fn console_of<'a>(board: &'a Board, name: &ConsoleName) -> Option<&'a ConsoleRow>
+pub fn console_of<'a>(board: &'a Board, name: &ConsoleName) -> Option<&'a ConsoleRow>
     ensures { option_copied result ≡ console_at board.entry.now name.now }
 {
     board.rows().consoles.find(name)

@@ -37,7 +37,7 @@ _opcmds() {
         "explain --class") mapfile -t COMPREPLY < <(compgen -W 'OPERCMDS CONSOLE' -- "$word"); return ;;
         "explain --policy" | "explain --db") compopt -o filenames; mapfile -t COMPREPLY < <(compgen -f -- "$word"); return ;;
         "explain --user" | "explain --command" | "explain --as" | "explain --resource" | "explain --console") return ;;
-        "check --allow") mapfile -t COMPREPLY < <(compgen -W 'N01 N02 N03 N04 N05 N06 N08 N09 N10 N11 N12 N13 N14 N15 N16 N17 N18 N19' -- "$word"); return ;;
+        "check --allow") mapfile -t COMPREPLY < <(compgen -W 'N01 N02 N03 N04 N05 N06 N08 N09 N10 N11 N12 N13 N14 N15 N16 N17 N18 N19 N20' -- "$word"); return ;;
         "check --policy" | "check --db") compopt -o filenames; mapfile -t COMPREPLY < <(compgen -f -- "$word"); return ;;
         "run --db" | "run --policy" | "run --log") compopt -o filenames; mapfile -t COMPREPLY < <(compgen -f -- "$word"); return ;;
         "run --console") return ;;

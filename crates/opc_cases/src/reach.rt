@@ -3,10 +3,11 @@
 use anyhow::Result;
 use opc_check_reach::met::is_met;
 use opc_names::name::Pattern;
+use std::alloc::Global;
 
 /// Whether a pattern is met.
-pub fn answer(pattern: &str) -> Result<&'static str> {
-    Ok(if is_met(&Pattern::read(pattern)?) {
+pub fn answer(alloc: Global, pattern: &str) -> Result<&'static str> {
+    Ok(if is_met(alloc, &Pattern::read(pattern)?)? {
         "met"
     } else {
         "not met"

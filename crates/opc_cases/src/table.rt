@@ -43,7 +43,7 @@ impl Table {
         match self {
             Table::Names => beside(alloc, line, crate::names::answer(alloc, line)?.as_str()),
             Table::Reader => beside(alloc, line, crate::reader::answer(alloc, line)?.as_str()),
-            Table::Reach => beside(alloc, line, crate::reach::answer(line)?),
+            Table::Reach => beside(alloc, line, crate::reach::answer(alloc, line)?),
             Table::Policy(policy) => alone(crate::policy::answer(alloc, policy, line)?),
             Table::Import => alone(crate::import::answer(alloc, line)?),
             Table::Answers(file) => crate::answers::answer(alloc, file, line),

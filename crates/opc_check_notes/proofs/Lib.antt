@@ -4,9 +4,9 @@ pub mod OfKind
 pub mod Placing
 pub mod Rising
 pub mod Steps
+pub mod Before
 pub mod ByPlace
 pub mod Earliest
 pub mod Floats
 pub mod OfCode
-pub mod Reached
 pub mod Serving

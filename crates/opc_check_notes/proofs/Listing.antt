@@ -58,16 +58,21 @@ use Rattle.std.specs.Str.{bytes_eq}
 use Rattle.std.proofs.lemmas.Bool.{cases_lt}
 use Rattle.std.proofs.lemmas.List.Elements.{filter_agree}
 use Rattle.std.proofs.lemmas.List.Folds.{list_any_at, list_any_none}
+use Rattle.std.proofs.lemmas.List.{get_or_read}
 use Rattle.std.proofs.lemmas.List.Sorted.{length_permutation, list_any-IsPermutation, searchable_from_sorted}
 use Rattle.std.proofs.lemmas.Cmp.{nat_list_cmp_total}
 use Rattle.std.proofs.lemmas.Map.Text.{is_eq-slice_cmp}
 use Rattle.opc_policy_members.specs.Members.{name_cmp}
-use Rattle.opc_check_notes.specs.SortedPairs.{at_key}
+use Rattle.opc_check_notes.specs.SortedPairs.{at_key, from_to}
 use Rattle.opc_check_notes.specs.Named.{is_name}
+
+and_false : (a : Bool) → (a && false) ≡ false
+and_false true = refl
+and_false false = refl
 
 -- ---- what a stable sort by keys leaves of a key
 
-no_items : {A : Type 0} (xs : List A) → length xs ≡ 0 → xs ≡ []
+pub no_items : {A : Type 0} (xs : List A) → length xs ≡ 0 → xs ≡ []
 no_items [] none = refl
 no_items (x ∷ xs) none = absurd (omega (arith, none))
 
@@ -188,6 +193,71 @@ found_at {K} {V} R key xs a b within inside less most =
     (λ k d low high. less_unlike _ (less.0 k d low high))
     (λ k d low high. neither _ (less.1 k d low (omega (arith, up, high, inside))) (most.0 k d (omega arith) (omega (arith, up, high))))
     (λ k d low high. more_unlike _ (most.1 k d (omega (arith, up, low)) high))
+
+-- ---- the pairs from one key up to another
+
+module _ {K V : Type 0} (R : K → K → Ordering) (from to : K) (xs : List (K × V)) (a b : ℕ) (within : a ≤ length xs)
+    (inside : b ≤ length xs) (low : Parts (λ (p : K × V). is_lt (R p.0 from)) xs a)
+    (high : Parts (λ (p : K × V). is_lt (R p.0 to)) xs b) where
+  is_from_to : K × V → Bool
+  is_from_to p = not (is_lt (R p.0 from)) && is_lt (R p.0 to)
+
+  too_low : (k : ℕ) (d : K × V) → k < a → is_from_to (get_or xs k d) ≡ false
+  unfolding is_from_to
+  too_low k d here = ap (λ t. not t && is_lt (R (get_or xs k d).0 to)) (low.0 k d (omega arith) here)
+
+  too_high : (k : ℕ) (d : K × V) → b ≤ k → k < length xs → is_from_to (get_or xs k d) ≡ false
+  unfolding is_from_to
+  too_high k d here end = ap (λ t. not (is_lt (R (get_or xs k d).0 from)) && t) (high.1 k d here end) ∙ and_false _
+
+  right : (k : ℕ) (d : K × V) → a ≤ k → k < b → is_from_to (get_or xs k d) ≡ true
+  unfolding is_from_to
+  right k d here end =
+      ap (λ t. not t && is_lt (R (get_or xs k d).0 to)) (low.1 k d here (omega (arith, end, inside))) ∙ high.0 k d (omega arith) end
+
+  pub found_from_to : a < b → take (b - a) (drop a xs) ≡ from_to R from to xs
+  unfolding is_from_to
+  found_from_to up =
+      between is_from_to xs a (b - a) (omega (arith, up, inside)) (λ k d start end. too_low k d end)
+      (λ k d start end. right k d start (omega (arith, up, end))) (λ k d start end. too_high k d (omega (arith, up, start)) end)
+
+-- none, if all before the second key are below the first
+pub none_from_to : {K V : Type 0} (R : K → K → Ordering) (from to : K) (xs : List (K × V)) (b : ℕ)
+    → Parts (λ (p : K × V). is_lt (R p.0 to)) xs b
+    → ((k : ℕ) (d : K × V) → k < b → is_lt (R (get_or xs k d).0 from) ≡ true) → take 0 xs ≡ from_to R from to xs
+none_from_to {K} {V} R from to xs b high low =
+    between (λ (p : K × V). not (is_lt (R p.0 from)) && is_lt (R p.0 to)) xs 0 0 (omega arith)
+    (λ k d start end. absurd (omega (arith, end))) (λ k d start end. absurd (omega (arith, end)))
+    (λ k d start end. go k d end (cases_lt k b))
+  where
+    go : (k : ℕ) (d : K × V) → k < length xs → (k < b) ⊎ (b ≤ k)
+        → (not (is_lt (R (get_or xs k d).0 from)) && is_lt (R (get_or xs k d).0 to)) ≡ false
+    go k d end (inl here) = ap (λ t. not t && is_lt (R (get_or xs k d).0 to)) (low k d here)
+    go k d end (inr here) = ap (λ t. not (is_lt (R (get_or xs k d).0 from)) && t) (high.1 k d here end) ∙ and_false _
+
+-- of the last of the first pairs, as it is read
+pub read_last : {K V : Type 0} (R : K → K → Ordering) (from : K) (xs : List (K × V)) (b : ℕ) (last : K × V) (v : Bool)
+    → last ≡ get_or xs (b - 1) last → is_lt (R (get_or xs (b - 1) last).0 from) ≡ v → is_lt (R last.0 from) ≡ v
+read_last {K} {V} R from xs b last v is h = ap (λ (p : K × V). is_lt (R p.0 from)) is ∙ h
+
+-- and they are, if the last of them is
+pub all_below : {K V : Type 0} {R : K → K → Ordering} (o : IsTotalOrder R) (from : K) (xs : List (K × V)) (b : ℕ) (last : K × V)
+    → IsSortedByKey (λ (p : K × V). p.0) R xs → 0 < b → b ≤ length xs → last ≡ get_or xs (b - 1) last
+    → is_lt (R last.0 from) ≡ true → (k : ℕ) (d : K × V) → k < b → is_lt (R (get_or xs k d).0 from) ≡ true
+all_below {K} {V} {R} o from xs b last up some inside is h k d here =
+    parted_less o xs from up k (b - 1) d (omega (arith, here, some)) (omega (arith, some, inside))
+    (ap (λ (p : K × V). is_lt (R p.0 from)) (sym (get_or_read xs (b - 1) last (omega (arith, some, inside)) is d)) ∙ h)
+
+-- and some of them start below, if the last is not
+pub starts_below : {K V : Type 0} (R : K → K → Ordering) (from : K) (xs : List (K × V)) (a b : ℕ) (last : K × V)
+    → Parts (λ (p : K × V). is_lt (R p.0 from)) xs a → 0 < b → last ≡ get_or xs (b - 1) last → is_lt (R last.0 from) ≡ false → a < b
+starts_below {K} {V} R from xs a b last low some is h = go (cases_lt a b)
+  where
+    go : (a < b) ⊎ (b ≤ a) → a < b
+    go (inl here) = here
+    go (inr past) =
+        absurd (let below : is_lt (R (get_or xs (b - 1) last).0 from) ≡ true = low.0 (b - 1) last (omega arith) (omega (arith, some, past)) in
+        let bad : true ≡ false = sym below ∙ ap (λ (p : K × V). is_lt (R p.0 from)) (sym is) ∙ h in cc)
 
 -- ---- names
 

@@ -129,6 +129,13 @@ none_else list code.NoAccess (rows.Connect user group) h = refl
 none_else list code.NoAccess (rows.Console name auth mode) h = refl
 none_else list code.NoAccess (rows.Profile class pattern uacc owner warning) h = refl
 none_else list code.NoAccess (rows.Permit class pattern id level when) h = refl
+none_else list code.NeverDecides (rows.Class class active) h = refl
+none_else list code.NeverDecides (rows.Group name) h = refl
+none_else list code.NeverDecides (rows.User user) h = refl
+none_else list code.NeverDecides (rows.Connect user group) h = refl
+none_else list code.NeverDecides (rows.Console name auth mode) h = refl
+none_else list code.NeverDecides (rows.Profile class pattern uacc owner warning) h = absurd (cc)
+none_else list code.NeverDecides (rows.Permit class pattern id level when) h = refl
 
 pub notes_about : (list : List NumberedRow) (c : NoteCode)
     → filter_map (note_at list c) (of_kind list (about c)) ≡ filter_map (note_at list c) list

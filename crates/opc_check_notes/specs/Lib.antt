@@ -7,6 +7,7 @@ pub mod Kinds
 pub mod Levels
 pub mod SortedPairs
 pub mod Named
+pub mod Preceding
 pub mod Met
 pub mod Notes
 pub mod Ranked

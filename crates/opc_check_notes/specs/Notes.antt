@@ -36,7 +36,8 @@ use Rattle.opc_import.specs.declared.kind.Kind.{Kind}
 use Rattle.opc_import.specs.declared.kind.Kind.TheVariants as kind
 use Rattle.opc_check_notes.specs.declared.names.Given.{Given}
 use Rattle.opc_check_notes.specs.declared.names.Given.TheVariants as given
-use Rattle.opc_check_notes.specs.Met.{is_met}
+use Rattle.opc_check_notes.specs.Met.{is_met, is_preceded}
+use Rattle.opc_check_notes.specs.Preceding.{opercmds_pattern}
 use Rattle.opc_check_notes.specs.declared.note.Finding.{Finding}
 use Rattle.opc_check_notes.specs.declared.note.Finding.TheVariants as found
 use Rattle.opc_check_notes.specs.declared.note.Note.{Note}
@@ -68,8 +69,13 @@ open_to_all row = None
 
 -- N17
 abbrev pub no_resource : Row → Option Finding
-no_resource (rows.Profile Opercmds pattern uacc owner warns) = if_so (not (is_met pattern)) (found.NoResource pattern)
-no_resource row = None
+no_resource row = option_and_then
+    (λ (pattern : List ℕ). if_so (not (is_met pattern)) (found.NoResource pattern)) (opercmds_pattern row)
+
+-- N20
+abbrev pub never_decides : List NumberedRow → Row → Option Finding
+never_decides list row = option_and_then
+    (λ (pattern : List ℕ). if_so (is_preceded list pattern) (found.NeverDecides pattern)) (opercmds_pattern row)
 
 -- ---- users
 
@@ -185,25 +191,30 @@ no_profile list row = None
 
 -- ---- all notes
 
+-- what is found at a row, but for what a search for resources finds
+abbrev pub found_without_search : List NumberedRow → NoteCode → Row → Option Finding
+found_without_search list code.Warning row = warning row
+found_without_search list code.OpenToAll row = open_to_all row
+found_without_search list code.NoDigest row = no_digest list row
+found_without_search list code.SameDigest row = same_digest list row
+found_without_search list code.EmptyGroup row = empty_group list row
+found_without_search list code.RevokedEntry row = revoked_entry list row
+found_without_search list code.Special row = one_special list row
+found_without_search list code.OpenConsole row = open_console row
+found_without_search list code.NoOwnUser row = no_own_user list row
+found_without_search list code.InactiveClass row = inactive_class row
+found_without_search list code.NoProfile row = no_profile list row
+found_without_search list code.OwnBelowGroup row = own_below_group list row
+found_without_search list code.ServesNobody row = serves_nobody list row
+found_without_search list code.SpecialConsole row = special_console list row
+found_without_search list code.NoAccess row = no_access list row
+found_without_search list code row = None
+
 -- what is found at a row
 abbrev pub finding : List NumberedRow → NoteCode → Row → Option Finding
-finding list code.Warning row = warning row
-finding list code.OpenToAll row = open_to_all row
-finding list code.NoDigest row = no_digest list row
-finding list code.SameDigest row = same_digest list row
-finding list code.EmptyGroup row = empty_group list row
-finding list code.RevokedEntry row = revoked_entry list row
-finding list code.Special row = one_special list row
-finding list code.OpenConsole row = open_console row
-finding list code.NoOwnUser row = no_own_user list row
-finding list code.InactiveClass row = inactive_class row
-finding list code.NoProfile row = no_profile list row
-finding list code.OwnBelowGroup row = own_below_group list row
-finding list code.ServesNobody row = serves_nobody list row
 finding list code.NoResource row = no_resource row
-finding list code.SpecialConsole row = special_console list row
-finding list code.NoAccess row = no_access list row
-finding list code row = None
+finding list code.NeverDecides row = never_decides list row
+finding list code row = found_without_search list code row
 
 -- the kind of the rows that a code is about
 abbrev pub about : NoteCode → Kind
@@ -225,6 +236,7 @@ about code.ServesNobody = kind.Permit
 about code.NoResource = kind.Profile
 about code.SpecialConsole = kind.Console
 about code.NoAccess = kind.User
+about code.NeverDecides = kind.Profile
 
 -- findings about no row: what nobody has, and a class of which no row says whether it is active
 abbrev pub if_none : List NumberedRow → Given → Finding → List Finding
@@ -257,7 +269,7 @@ abbrev pub all_codes : List NoteCode
 all_codes = code.Warning ∷ code.OpenToAll ∷ code.NoDigest ∷ code.SameDigest ∷ code.EmptyGroup
     ∷ code.RevokedEntry ∷ code.Special ∷ code.Auditor ∷ code.Master ∷ code.OpenConsole ∷ code.NoOwnUser
     ∷ code.InactiveClass ∷ code.NoProfile ∷ code.OwnBelowGroup ∷ code.ServesNobody ∷ code.NoResource
-    ∷ code.SpecialConsole ∷ code.NoAccess ∷ []
+    ∷ code.SpecialConsole ∷ code.NoAccess ∷ code.NeverDecides ∷ []
 
 -- The notes on the rows of a policy file, by their codes and then by rows.
 abbrev pub notes : List Row → List Note

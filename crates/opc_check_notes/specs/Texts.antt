@@ -32,6 +32,7 @@ code_text code.ServesNobody = codes "N16"
 code_text code.NoResource = codes "N17"
 code_text code.SpecialConsole = codes "N18"
 code_text code.NoAccess = codes "N19"
+code_text code.NeverDecides = codes "N20"
 
 abbrev pub code_of : Finding → NoteCode
 code_of (found.Warning class pattern) = code.Warning
@@ -53,6 +54,7 @@ code_of (found.ServesNobody pattern group level) = code.ServesNobody
 code_of (found.NoResource pattern) = code.NoResource
 code_of (found.SpecialConsole console) = code.SpecialConsole
 code_of (found.NoAccess user) = code.NoAccess
+code_of (found.NeverDecides pattern) = code.NeverDecides
 
 -- what an OPTIONAL console allows without a logon
 abbrev pub opened : Auth → List ℕ
@@ -96,6 +98,8 @@ finding_text (found.NoResource pattern) =
 finding_text (found.SpecialConsole console) =
     codes "console " ++ (console ++ (codes " is AUTO, and " ++ (console ++ codes " has SPECIAL: no password is asked")))
 finding_text (found.NoAccess user) = user ++ codes " is in no group and no access list"
+finding_text (found.NeverDecides pattern) =
+    codes "profile OPERCMDS " ++ (pattern ++ codes " never decides: others come before it")
 
 -- a note as a line: its code, what names the row that it is about, and what was found; 10 is the line feed
 abbrev pub note_text : (place : List ℕ) → Note → List ℕ

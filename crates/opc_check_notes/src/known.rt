@@ -12,6 +12,7 @@ ghost use Rattle.opc_check_notes.specs.Effect.{AreInOrder, in_effect};
 ghost use Rattle.opc_check_notes.specs.Entries.{groups_at};
 ghost use Rattle.opc_check_notes.specs.Levels.{level_at};
 ghost use Rattle.opc_check_notes.specs.Named.{HasNames, count, is_named};
+ghost use Rattle.opc_check_notes.specs.Preceding.{ArePreceding};
 
 use crate::connects::{Partners, Side, connects};
 use crate::digests::{Digests, digests};
@@ -19,9 +20,10 @@ use crate::effect::{Kept, RowKey, RowsByKey, rows_in_effect};
 use crate::entries::{EntryPlace, GroupEntries, group_entries};
 use crate::kinds::ByKind;
 use crate::names::{Given, SortedNames, copied, count, names};
+use crate::preceding::{PatternsByKey, patterns_by_key, preceding};
 use opc_names::bytes::Bytes;
 use opc_names::level::Level;
-use opc_names::name::{ConsoleName, GroupName, UserId};
+use opc_names::name::{ConsoleName, GroupName, Pattern, UserId};
 use opc_policy_members::row::Row;
 use opc_terms::entry_id::EntryId;
 use std::alloc::{AllocError, Global};
@@ -104,6 +106,7 @@ pub struct Known {
     groups_of: Partners,
     users_of: Partners,
     group_entries: GroupEntries,
+    patterns: PatternsByKey,
     specials: usize,
 }
 
@@ -118,6 +121,7 @@ impl Model for Known {
     ghost use Rattle.opc_check_notes.specs.Entries.{HasPlaced};
     ghost use Rattle.opc_check_notes.specs.Levels.{HasLevels, HasRows};
     ghost use Rattle.opc_check_notes.specs.Named.{HasNames, count};
+    ghost use Rattle.opc_check_notes.specs.Preceding.{HasPatterns};
 
     ghost Value = { List NumberedRow };
 
@@ -138,6 +142,7 @@ impl Model for Known {
         × HasPartners k.rows side.User k.groups_of
         × HasPartners k.rows side.Group k.users_of
         × HasPlaced k.rows k.group_entries
+        × HasPatterns k.rows k.patterns
         × (k.specials ≡ count k.rows given.Special) };
 }
 
@@ -153,6 +158,7 @@ impl Known {
         let groups_of = connects(alloc, &rows, Side::User)?;
         let users_of = connects(alloc, &rows, Side::Group)?;
         let group_entries = group_entries(alloc, &rows, &names.members)?;
+        let patterns = patterns_by_key(alloc, &rows)?;
         let specials = count(&rows, Given::Special);
         Ok(Known {
             rows,
@@ -162,6 +168,7 @@ impl Known {
             groups_of,
             users_of,
             group_entries,
+            patterns,
             specials,
         })
     }
@@ -273,6 +280,13 @@ impl Known {
         ensures order { AreInOrder self.now }
     {
         self.group_entries.at(place)
+    }
+
+    /// The patterns of OPERCMDS that come before one and can cover what it covers.
+    pub fn preceding(&self, alloc: Global, pattern: &Pattern) -> Result<Vec<Pattern>, AllocError>
+        ensures { IfOk result (λ found. ArePreceding self.now pattern.now found.items) }
+    {
+        preceding(alloc, &self.patterns, pattern)
     }
 
     /// How many users have SPECIAL who are not revoked.

@@ -2,6 +2,7 @@
 #![tactic(auto)]
 
 pub mod connects;
+mod deciding;
 mod digests;
 pub mod effect;
 pub mod entries;
@@ -14,6 +15,7 @@ pub mod note;
 pub mod notes;
 pub mod numbered;
 mod phrases;
+mod preceding;
 mod profiles;
 mod sorted_pairs;
 pub mod text;

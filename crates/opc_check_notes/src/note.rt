@@ -29,6 +29,7 @@ pub enum NoteCode {
     NoResource,
     SpecialConsole,
     NoAccess,
+    NeverDecides,
 }
 
 impl NoteCode {
@@ -55,6 +56,7 @@ impl NoteCode {
             NoteCode::NoResource => "N17",
             NoteCode::SpecialConsole => "N18",
             NoteCode::NoAccess => "N19",
+            NoteCode::NeverDecides => "N20",
         }
     }
 }
@@ -108,6 +110,7 @@ pub enum Finding {
     NoResource(Pattern),
     SpecialConsole(ConsoleName),
     NoAccess(UserId),
+    NeverDecides(Pattern),
 }
 
 impl Finding {
@@ -134,6 +137,7 @@ impl Finding {
             Finding::NoResource(_) => NoteCode::NoResource,
             Finding::SpecialConsole(_) => NoteCode::SpecialConsole,
             Finding::NoAccess(_) => NoteCode::NoAccess,
+            Finding::NeverDecides(_) => NoteCode::NeverDecides,
         }
     }
 }

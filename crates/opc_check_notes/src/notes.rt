@@ -6,6 +6,7 @@ ghost use Rattle.opc_check_notes.specs.Notes.{
   all_codes,
   finding,
   findings,
+  found_without_search,
   if_none,
   note_at,
   note_of_none,
@@ -14,6 +15,7 @@ ghost use Rattle.opc_check_notes.specs.Notes.{
   unnamed_class,
 };
 
+use crate::deciding::{never_decides, no_resource};
 use crate::entry_notes::{empty_group, revoked_entry, serves_nobody};
 use crate::groups::own_below_group;
 use crate::known::Known;
@@ -21,7 +23,7 @@ use crate::names::{Given, count};
 use crate::note::{Finding, Note, NoteCode};
 use crate::numbered::NumberedRow;
 use crate::profiles::{
-    has_class_row, inactive_class, no_own_user, no_profile, no_resource, open_console, open_to_all,
+    has_class_row, inactive_class, no_own_user, no_profile, open_console, open_to_all,
     special_console, warning,
 };
 use crate::users::{no_access, no_digest, one_special, same_digest};
@@ -31,9 +33,9 @@ use opc_policy_members::row::Row;
 use opc_rows::Rows;
 use std::alloc::{AllocError, Global};
 
-/// What is found at a row.
-fn finding(known: &Known, code: NoteCode, row: &Row) -> Option<Finding>
-    ensures { result ≡ finding known.now code row.now }
+/// What is found at a row, but for what a search for resources finds.
+fn found_without_search(known: &Known, code: NoteCode, row: &Row) -> Option<Finding>
+    ensures { result ≡ found_without_search known.now code row.now }
 {
     match code {
         NoteCode::Warning => warning(row),
@@ -49,23 +51,45 @@ fn finding(known: &Known, code: NoteCode, row: &Row) -> Option<Finding>
         NoteCode::NoProfile => no_profile(known, row),
         NoteCode::OwnBelowGroup => own_below_group(known, row),
         NoteCode::ServesNobody => serves_nobody(known, row),
-        NoteCode::NoResource => no_resource(row),
         NoteCode::SpecialConsole => special_console(known, row),
         NoteCode::NoAccess => no_access(known, row),
-        // These findings are about no row.
-        NoteCode::Auditor | NoteCode::Master => None,
+        // These findings are about no row, or a search finds them.
+        NoteCode::Auditor | NoteCode::Master | NoteCode::NoResource | NoteCode::NeverDecides =>
+            None,
     }
 }
 
-fn note_at(known: &Known, code: NoteCode, at: &NumberedRow) -> Option<Note>
-    ensures { result ≡ note_at known.now code at.now }
+/// What is found at a row.
+fn finding(
+    alloc: Global,
+    known: &Known,
+    code: NoteCode,
+    row: &Row,
+) -> Result<Option<Finding>, AllocError>
+    ensures { IfOk result (λ found. found ≡ finding known.now code row.now) }
 {
-    match finding(known, code, &at.row) {
-        Some(finding) => Some(Note {
+    match code {
+        NoteCode::NoResource => no_resource(alloc, row),
+        NoteCode::NeverDecides => never_decides(alloc, known, row),
+        // The others need no search.
+        _ => Ok(found_without_search(known, code, row)),
+    }
+}
+
+fn note_at(
+    alloc: Global,
+    known: &Known,
+    code: NoteCode,
+    at: &NumberedRow,
+) -> Result<Option<Note>, AllocError>
+    ensures { IfOk result (λ note. note ≡ note_at known.now code at.now) }
+{
+    match finding(alloc, known, code, &at.row)? {
+        Some(finding) => Ok(Some(Note {
             row: Some(at.number),
             finding,
-        }),
-        None => None,
+        })),
+        None => Ok(None),
     }
 }
 
@@ -87,6 +111,7 @@ fn add_found(notes: &mut Rows<Note>, note: Option<Note>) -> Result<(), AllocErro
 /// Adds what is found at these rows.
 fn add_at_rows(
     notes: &mut Rows<Note>,
+    alloc: Global,
     known: &Known,
     rows: &[NumberedRow],
     code: NoteCode,
@@ -96,7 +121,7 @@ fn add_at_rows(
     // As in `add_found`.
     let _nothing: Option<Finding> = None;
     for at in rows {
-        add_found(notes, note_at(known, code, at))?;
+        add_found(notes, note_at(alloc, known, code, at)?)?;
     }
     Ok(())
 }
@@ -153,7 +178,8 @@ fn about(code: NoteCode) -> Kind
     ensures { result ≡ about code }
 {
     match code {
-        NoteCode::Warning | NoteCode::OpenToAll | NoteCode::NoResource => Kind::Profile,
+        NoteCode::Warning | NoteCode::OpenToAll | NoteCode::NoResource | NoteCode::NeverDecides =>
+            Kind::Profile,
         NoteCode::NoDigest
         | NoteCode::SameDigest
         | NoteCode::Special
@@ -170,23 +196,33 @@ fn about(code: NoteCode) -> Kind
 }
 
 /// Adds what is found at the rows of the kind that a code is about.
-fn add_of_rows(notes: &mut Rows<Note>, known: &Known, code: NoteCode) -> Result<(), AllocError>
+fn add_of_rows(
+    notes: &mut Rows<Note>,
+    alloc: Global,
+    known: &Known,
+    code: NoteCode,
+) -> Result<(), AllocError>
     ensures { OnOk result (notes.new ≡ notes.old ++ filter_map (note_at known.now code) known.now) }
 {
-    add_at_rows(notes, known, known.rows().of(about(code)), code)?;
+    add_at_rows(notes, alloc, known, known.rows().of(about(code)), code)?;
     Ok(())
 }
 
 /// Adds the notes of a code.
-fn add_notes(notes: &mut Rows<Note>, known: &Known, code: NoteCode) -> Result<(), AllocError>
+fn add_notes(
+    notes: &mut Rows<Note>,
+    alloc: Global,
+    known: &Known,
+    code: NoteCode,
+) -> Result<(), AllocError>
     ensures { OnOk result (notes.new ≡ notes.old ++ notes_of known.now code) }
 {
-    add_of_rows(notes, known, code)?;
+    add_of_rows(notes, alloc, known, code)?;
     add_of_none(notes, known, code)
 }
 
 /// All codes, in their order.
-pub fn all_codes() -> [NoteCode; 18]
+pub fn all_codes() -> [NoteCode; 19]
     ensures { result ≡ all_codes }
 {
     [
@@ -208,6 +244,7 @@ pub fn all_codes() -> [NoteCode; 18]
         NoteCode::NoResource,
         NoteCode::SpecialConsole,
         NoteCode::NoAccess,
+        NoteCode::NeverDecides,
     ]
 }
 
@@ -219,7 +256,7 @@ pub fn notes(alloc: Global, rows: &[Row]) -> Result<Rows<Note>, AllocError>
     let mut list = Rows::new(alloc);
     let codes = all_codes();
     for code in &codes {
-        add_notes(&mut list, &known, *code)?;
+        add_notes(&mut list, alloc, &known, *code)?;
     }
     Ok(list)
 }

@@ -168,6 +168,12 @@ fn no_access_text(alloc: Global, user: &UserId) -> Result<String, AllocError>
     format!(in alloc; "{user} is in no group and no access list")
 }
 
+fn never_decides_text(alloc: Global, pattern: &Pattern) -> Result<String, AllocError>
+    ensures { IfOk result (λ text. string_bytes text ≡ finding_text (found.NeverDecides pattern.now)) }
+{
+    format!(in alloc; "profile OPERCMDS {pattern} never decides: others come before it")
+}
+
 /// What was found, in words.
 pub(crate) fn finding_text(alloc: Global, finding: &Finding) -> Result<String, AllocError>
     ensures { IfOk result (λ text. string_bytes text ≡ finding_text finding.now) }
@@ -210,5 +216,6 @@ pub(crate) fn finding_text(alloc: Global, finding: &Finding) -> Result<String, A
         Finding::NoResource(pattern) => no_resource_text(alloc, &pattern),
         Finding::SpecialConsole(console) => special_console_text(alloc, &console),
         Finding::NoAccess(user) => no_access_text(alloc, &user),
+        Finding::NeverDecides(pattern) => never_decides_text(alloc, &pattern),
     }
 }

@@ -3,7 +3,6 @@ ghost use Rattle.std.specs.Prelude.{◌≡◌};
 ghost use Rattle.std.specs.List.{list_any};
 ghost use Rattle.opc_names.specs.Authority.{same_class};
 ghost use Rattle.opc_check_notes.specs.declared.numbered.NumberedRow.{NumberedRow as Numbered};
-ghost use Rattle.opc_check_notes.specs.Met.{is_met};
 ghost use Rattle.opc_check_notes.specs.Notes.{
   if_so,
   inactive_class,
@@ -11,7 +10,6 @@ ghost use Rattle.opc_check_notes.specs.Notes.{
   is_profile_row,
   no_own_user,
   no_profile,
-  no_resource,
   open_console,
   open_to_all,
   special_console,
@@ -21,11 +19,9 @@ ghost use Rattle.opc_check_notes.specs.Notes.{
 use crate::known::Known;
 use crate::note::Finding;
 use crate::numbered::NumberedRow;
-use opc_check_reach::met;
 use opc_import::kind::Kind;
 use opc_names::class::Class;
 use opc_names::level::Level;
-use opc_names::name::Pattern;
 use opc_policy_members::row::Row;
 use opc_terms::mode::Mode;
 
@@ -70,30 +66,6 @@ pub(crate) fn open_to_all(row: &Row) -> Option<Finding>
             },
         ),
         // The note is about profiles.
-        _ => None,
-    }
-}
-
-/// Whether a pattern of OPERCMDS covers a resource about which the gate asks.
-fn is_met(pattern: &Pattern) -> bool
-    ensures { result ≡ is_met pattern.now }
-{
-    // Named for the prover, to show that the text is a pattern.
-    let _text = pattern.text();
-    met::is_met(pattern)
-}
-
-/// A profile of OPERCMDS covers no such resource.
-pub(crate) fn no_resource(row: &Row) -> Option<Finding>
-    ensures { result ≡ no_resource row.now }
-{
-    match *row {
-        Row::Profile {
-            class: Class::Opercmds,
-            pattern,
-            ..
-        } => if_so(!is_met(&pattern), Finding::NoResource(pattern)),
-        // The gate asks about no class but OPERCMDS by name.
         _ => None,
     }
 }

@@ -1,9 +1,9 @@
 //! Values by keys that may have several.
-ghost use Rattle.std.specs.Prelude.{◌≡◌, ◌≤◌, ◌++◌, [], true, false, IfOk, OnOk, length};
-ghost use Rattle.std.specs.List.{cons_option};
+ghost use Rattle.std.specs.Prelude.{◌≡◌, ◌≤◌, ◌++◌, [], true, false, Bool, IfOk, OnOk, length};
+ghost use Rattle.std.specs.List.{cons_option, list_any};
 ghost use Rattle.std.specs.List.Sorted.{IsPartitionPoint, IsSortedByKey};
 ghost use Rattle.std.specs.Ordering.{is_le, is_lt};
-ghost use Rattle.opc_check_notes.specs.SortedPairs.{at_key};
+ghost use Rattle.opc_check_notes.specs.SortedPairs.{at_key, from_to};
 
 use std::alloc::AllocError;
 use std::marker::Model;
@@ -28,7 +28,8 @@ impl<K: Ord, V> Model for SortedPairs<K, V> {
 impl<K: Ord + Copy + Drop, V: Drop> SortedPairs<K, V> {
     /// These pairs.
     pub(crate) fn sorted(mut pairs: Vec<(K, V)>) -> Result<Self, AllocError>
-        ensures { IfOk result (λ kept. (key : K) → at_key K.cmp key kept ≡ at_key K.cmp key pairs.items) }
+        ensures keys { IfOk result (λ kept. (key : K) → at_key K.cmp key kept ≡ at_key K.cmp key pairs.items) }
+        ensures pairs { IfOk result (λ kept. (test : K × V → Bool) → list_any test kept ≡ list_any test pairs.items) }
     {
         pairs.sort_by_key(|pair| pair.0)?;
         Ok(SortedPairs { pairs })
@@ -39,6 +40,13 @@ impl<K: Ord + Copy + Drop, V: Drop> SortedPairs<K, V> {
         ensures { result.now ≡ at_key K.cmp key.now self.now }
     {
         among(&self.pairs, key)
+    }
+
+    /// The pairs from one key up to another, without those of the other.
+    pub(crate) fn from_to(&self, from: &K, to: &K) -> &[(K, V)]
+        ensures { result.now ≡ from_to K.cmp from.now to.now self.now }
+    {
+        between(&self.pairs, from, to)
     }
 }
 
@@ -69,6 +77,23 @@ fn among<'a, K: Ord, V>(pairs: &'a [(K, V)], key: &K) -> &'a [(K, V)]
 {
     let start = start_of(pairs, key);
     let end = end_of(pairs, key);
+    &pairs[start..end]
+}
+
+/// The pairs from one key up to another among sorted ones.
+fn between<'a, K: Ord, V>(pairs: &'a [(K, V)], from: &K, to: &K) -> &'a [(K, V)]
+    requires { IsSortedByKey (λ (p : K × V). p.0) K.cmp pairs.now }
+    ensures { result.now ≡ from_to K.cmp from.now to.now pairs.now }
+{
+    let end = start_of(pairs, to);
+    if end == 0 {
+        return &pairs[..0];
+    }
+    // For most keys there is none, as the last one before the other key says.
+    if pairs[end - 1].0.cmp(from).is_lt() {
+        return &pairs[..0];
+    }
+    let start = start_of(pairs, from);
     &pairs[start..end]
 }
 

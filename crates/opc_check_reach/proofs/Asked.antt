@@ -1,13 +1,11 @@
 -- What has one of the forms is asked about.
-use Rattle.std.proofs.Common.{◌≡◌, ℕ, ◌+◌, Bool, true, List, [], ◌∷◌, ◌++◌, map, length, codes, None, Ok, refl, sym, subst, inl, inr}
+use Rattle.std.proofs.Common.{◌≡◌, ℕ, ◌+◌, true, List, [], ◌∷◌, ◌++◌, length, codes, None, Ok, refl, ap, sym, subst, inl, inr, ◌∙◌}
 use Rattle.std.specs.List.{list_any, AllByRecursion}
 use Rattle.opc_names.specs.declared.group.Group.{Group}
 use Rattle.opc_names.specs.declared.group.Group.TheVariants.{Master, Info, Sys, Io, Cons}
 use Rattle.opc_names.specs.declared.level.Level.{Level}
 use Rattle.opc_names.specs.declared.level.Level.TheVariants.{Read, Update, Control}
-use Rattle.opc_names.specs.declared.token.Token.{Token}
-use Rattle.opc_names.specs.Names.{name_fault, qualifiers, console_rule, IsPattern}
-use Rattle.opc_names.specs.Patterns.{tokens}
+use Rattle.opc_names.specs.Names.{name_fault, qualifiers, console_rule}
 use Rattle.opc_terms.specs.declared.unit_kind.UnitKindAt.{UnitKindAt}
 use Rattle.opc_terms.specs.declared.unit_kind.UnitKindAt.TheVariants.{Absent, Job, Stc, Tsu}
 use Rattle.opc_reader_commands.specs.declared.command.Command.{Command}
@@ -38,12 +36,24 @@ use Rattle.opc_reader.specs.Lines.{Reads}
 use Rattle.opc_reader.specs.Reading.{reading}
 use Rattle.opc_reader.proofs.Exact.{so_reads}
 use Rattle.opc_table.specs.Table.{need, needs, qualified, started}
-use Rattle.opc_check_reach.specs.Forms.{Qualifier, AnyUnit, AnyConsole, IsOf, form, fixed_forms, named_forms, meets}
-use Rattle.opc_check_reach.specs.Reach.{IsKind, IsAsked, IsMet}
+use Rattle.opc_check_reach.specs.Forms.{
+  AnyConsole,
+  AnyUnit,
+  AreOf,
+  IsOf,
+  Qualifier,
+  decides,
+  decides_of,
+  decides_parts,
+  fixed_forms,
+  form,
+  named_forms,
+}
+use Rattle.opc_check_reach.specs.Reach.{Decides, IsKind, IsAsked}
+use Rattle.opc_check_reach.proofs.Deciding.{decide_parts}
 use Rattle.opc_check_reach.proofs.Examples.{named, text, a_reply, an_auth, examples}
-use Rattle.opc_check_reach.proofs.Meeting.{or_cases}
-use Rattle.opc_check_reach.proofs.Plain.{pattern_good}
-use Rattle.opc_check_reach.proofs.Texts.{IsAny, form_reached}
+use Rattle.opc_check_reach.proofs.Texts.{IsAny, form_made}
+use Rattle.opc_check_reach.proofs.Trying.{or_cases, resource_gives}
 use Rattle.opc_check_reach.proofs.Typed.{
   IsUnitName,
   line_of,
@@ -92,7 +102,7 @@ replies = by_line Info Read (codes "MVS.DISPLAY.R") (codes "D R") DisplayReplies
 reply : IsAsked (codes "MVS.REPLY")
 reply = by_line Info Read (codes "MVS.REPLY") (codes "R 7,X") a_reply examples.reply refl
 
-device : IsAsked (codes "MVS.VARY.DEV")
+pub device : IsAsked (codes "MVS.VARY.DEV")
 device = by_line Io Update (codes "MVS.VARY.DEV") (codes "V 0A80,ONLINE") (VaryDeviceOnline (named (codes "0A80") 2)) examples.device refl
 
 mount : IsAsked (codes "MVS.MOUNT")
@@ -129,7 +139,7 @@ halt : IsAsked (codes "MVS.HALT.EOD")
 halt = by_line Sys Update (codes "MVS.HALT.EOD") (codes "Z EOD") Halt examples.halt refl
 
 -- with a name
-cancel_job : (name : List ℕ) → IsUnitName name → IsAsked (qualified (codes "MVS.CANCEL.JOB") name)
+pub cancel_job : (name : List ℕ) → IsUnitName name → IsAsked (qualified (codes "MVS.CANCEL.JOB") name)
 cancel_job name h = needs_it Sys Update _ (line_of (codes "C") name) (Cancel (operand name 2)) Job (cancel_reads name h) tt refl
 
 cancel_tsu : (name : List ℕ) → IsUnitName name → IsAsked (qualified (codes "MVS.CANCEL.TSU") name)
@@ -168,133 +178,58 @@ start_stc member id m h =
     needs_it Sys Update _ (line_of (codes "S") (member ++ 46 ∷ id)) (StartAs (operand member 2) (operand id (2 + length member + 1))) Absent
     (start_reads member id m h) tt refl
 
-shown_unit : (name : List ℕ) → IsUnitName name → IsAsked (qualified (codes "MVS.DISPLAY.JOB") name)
+pub shown_unit : (name : List ℕ) → IsUnitName name → IsAsked (qualified (codes "MVS.DISPLAY.JOB") name)
 shown_unit name h = inr (inl (name, h, refl))
 
 shown_console : (name : List ℕ) → name_fault console_rule name ≡ None → IsAsked (qualified (codes "MVS.DISPLAY.CN") name)
 shown_console name h = inr (inr (name, h, refl))
 
 -- what has one of the forms
-abbrev pub Tokens : List ℕ → List (List Token)
-Tokens text = map tokens (qualifiers text)
+abbrev HasAsked : List (List ℕ) → Type 0
+HasAsked r = (resource : List ℕ) × IsAsked resource × (qualifiers resource ≡ r)
 
-any_gives : {G : Type 0} (test : List Qualifier → Bool) (fss : List (List Qualifier)) → AllByRecursion (λ fs. test fs ≡ true → G) fss
-    → list_any test fss ≡ true → G
-any_gives test [] all h = cc
-any_gives test (fs ∷ fss) all h =
-    elim (or_cases (test fs) (list_any test fss) h) [
-      | inl e ↦ all.0 e
-      | inr e ↦ any_gives test fss all.1 e
+abbrev AreAsked : List Qualifier → Type 0
+AreAsked fs = (r : List (List ℕ)) → AreOf fs r → HasAsked r
+
+fixed_row : (words : List ℕ) → IsAsked words → AreAsked (form words [])
+fixed_row words asked r are =
+    let k = form_made words [] r tt are in
+    (k.0, subst (λ x. IsAsked x) (sym k.1) asked, k.2)
+
+named_row : (words : List ℕ) (f : Qualifier) → IsAny f → ((name : List ℕ) → IsOf f name → IsAsked (qualified words name))
+    → AreAsked (form words (f ∷ []))
+named_row words f any asked r are =
+    let k = form_made words (f ∷ []) r (any, tt) are in
+    (k.0, subst (λ x. IsAsked x) (sym k.1.2) (asked k.1.0 k.1.1), k.2)
+
+task_row : (words : List ℕ) → ((member id : List ℕ) → IsUnitName member → IsUnitName id → IsAsked (started words member id))
+    → AreAsked (form words (AnyUnit ∷ AnyUnit ∷ []))
+task_row words asked r are =
+    let k = form_made words (AnyUnit ∷ AnyUnit ∷ []) r (tt, (tt, tt)) are in
+    (k.0, subst (λ x. IsAsked x) (sym k.1.2.2) (asked k.1.0 k.1.2.0 k.1.1 k.1.2.1), k.2)
+
+fixed_asked : AllByRecursion AreAsked fixed_forms
+fixed_asked = (fixed_row (codes "MVS.DISPLAY.JOB") units, (fixed_row (codes "MVS.DISPLAY.U") devices, (fixed_row (codes "MVS.DISPLAY.CN") consoles, (fixed_row (codes "MVS.DISPLAY.R") replies, (fixed_row (codes "MVS.REPLY") reply, (fixed_row (codes "MVS.VARY.DEV") device, (fixed_row (codes "MVS.MOUNT") mount, (fixed_row (codes "MVS.UNLOAD") unload, (fixed_row (codes "MVS.SWAP") swap, (fixed_row (codes "MVS.VARY.CN") console, (fixed_row (codes "MVS.VARYAUTH.CN") auth, (fixed_row (codes "MVS.RESET.CN") reset, (fixed_row (codes "MVS.SEND") send, (fixed_row (codes "MVS.LOG") log, (fixed_row (codes "MVS.MONITOR") monitor, (fixed_row (codes "MVS.STOPMN") stop_monitor, (fixed_row (codes "MVS.HALT.EOD") halt, tt)))))))))))))))))
+
+named_asked : AllByRecursion AreAsked named_forms
+named_asked = (named_row (codes "MVS.DISPLAY.JOB") AnyUnit tt shown_unit, (named_row (codes "MVS.DISPLAY.CN") AnyConsole tt shown_console, (named_row (codes "MVS.CANCEL.JOB") AnyUnit tt cancel_job, (named_row (codes "MVS.CANCEL.TSU") AnyUnit tt cancel_tsu, (named_row (codes "MVS.FORCE.JOB") AnyUnit tt force_job, (named_row (codes "MVS.FORCE.TSU") AnyUnit tt force_tsu, (named_row (codes "MVS.STOP.JOB") AnyUnit tt stop_job, (named_row (codes "MVS.MODIFY.JOB") AnyUnit tt modify_job, (task_row (codes "MVS.START.STC") start_stc, (task_row (codes "MVS.CANCEL.STC") cancel_stc, (task_row (codes "MVS.FORCE.STC") force_stc, (task_row (codes "MVS.STOP.STC") stop_stc, (task_row (codes "MVS.MODIFY.STC") modify_stc, tt)))))))))))))
+
+-- what decides a resource of a form decides one that is asked about
+one_decides : (forms : List (List Qualifier)) (pattern : List ℕ) (before : List (List ℕ)) → AllByRecursion AreAsked forms
+    → list_any (decides_of pattern before) forms ≡ true → Decides pattern before
+one_decides [] pattern before asked h = cc
+one_decides (fs ∷ forms) pattern before asked h =
+    elim (or_cases (decides_of pattern before fs) (list_any (decides_of pattern before) forms) h) [
+      | inl e ↦ (let found = resource_gives fs (decides_parts pattern before) e in
+          let resource = asked.0 found.0 found.1 in
+          let says = decide_parts pattern before (qualifiers resource.0) (ap (decides_parts pattern before) resource.2 ∙ found.2) in
+          (resource.0, resource.1, says.0, says.1))
+      | inr e ↦ one_decides forms pattern before asked.1 e
     ]
 
-fixed_row : (pattern : List ℕ) → IsPattern pattern → (words : List ℕ) → IsAsked words → meets (Tokens pattern) (form words []) ≡ true
-    → IsMet pattern
-fixed_row pattern valid words asked h =
-    let k = form_reached words [] (Tokens pattern) tt (pattern_good pattern valid) h in
-    (k.0, subst (λ r. IsAsked r) (sym k.1) asked, k.2)
-
-named_row : (pattern : List ℕ) → IsPattern pattern → (words : List ℕ) (f : Qualifier) → IsAny f
-    → ((name : List ℕ) → IsOf f name → IsAsked (qualified words name))
-    → meets (Tokens pattern) (form words (f ∷ [])) ≡ true → IsMet pattern
-named_row pattern valid words f any asked h =
-    let k = form_reached words (f ∷ []) (Tokens pattern) (any, tt) (pattern_good pattern valid) h in
-    (k.0, subst (λ r. IsAsked r) (sym k.1.2) (asked k.1.0 k.1.1), k.2)
-
-task_row : (pattern : List ℕ) → IsPattern pattern → (words : List ℕ)
-    → ((member id : List ℕ) → IsUnitName member → IsUnitName id → IsAsked (started words member id))
-    → meets (Tokens pattern) (form words (AnyUnit ∷ AnyUnit ∷ [])) ≡ true → IsMet pattern
-task_row pattern valid words asked h =
-    let k = form_reached words (AnyUnit ∷ AnyUnit ∷ []) (Tokens pattern) (tt, (tt, tt)) (pattern_good pattern valid) h in
-    (k.0, subst (λ r. IsAsked r) (sym k.1.2.2) (asked k.1.0 k.1.2.0 k.1.1 k.1.2.1), k.2)
-
-pub fixed_asked : (pattern : List ℕ) → IsPattern pattern → list_any (meets (Tokens pattern)) fixed_forms ≡ true → IsMet pattern
-fixed_asked pattern valid h =
-    any_gives (meets (Tokens pattern)) fixed_forms (
-      fixed_row pattern valid (codes "MVS.DISPLAY.JOB") units,
-      (
-        fixed_row pattern valid (codes "MVS.DISPLAY.U") devices,
-        (
-          fixed_row pattern valid (codes "MVS.DISPLAY.CN") consoles,
-          (
-            fixed_row pattern valid (codes "MVS.DISPLAY.R") replies,
-            (
-              fixed_row pattern valid (codes "MVS.REPLY") reply,
-              (
-                fixed_row pattern valid (codes "MVS.VARY.DEV") device,
-                (
-                  fixed_row pattern valid (codes "MVS.MOUNT") mount,
-                  (
-                    fixed_row pattern valid (codes "MVS.UNLOAD") unload,
-                    (
-                      fixed_row pattern valid (codes "MVS.SWAP") swap,
-                      (
-                        fixed_row pattern valid (codes "MVS.VARY.CN") console,
-                        (
-                          fixed_row pattern valid (codes "MVS.VARYAUTH.CN") auth,
-                          (
-                            fixed_row pattern valid (codes "MVS.RESET.CN") reset,
-                            (
-                              fixed_row pattern valid (codes "MVS.SEND") send,
-                              (
-                                fixed_row pattern valid (codes "MVS.LOG") log,
-                                (
-                                  fixed_row pattern valid (codes "MVS.MONITOR") monitor,
-                                  (
-                                    fixed_row pattern valid (codes "MVS.STOPMN") stop_monitor,
-                                    (fixed_row pattern valid (codes "MVS.HALT.EOD") halt, tt),
-                                  ),
-                                ),
-                              ),
-                            ),
-                          ),
-                        ),
-                      ),
-                    ),
-                  ),
-                ),
-              ),
-            ),
-          ),
-        ),
-      ),
-    ) h
-
-pub named_asked : (pattern : List ℕ) → IsPattern pattern → list_any (meets (Tokens pattern)) named_forms ≡ true → IsMet pattern
-named_asked pattern valid h =
-    any_gives (meets (Tokens pattern)) named_forms (
-      named_row pattern valid (codes "MVS.DISPLAY.JOB") AnyUnit tt shown_unit,
-      (
-        named_row pattern valid (codes "MVS.DISPLAY.CN") AnyConsole tt shown_console,
-        (
-          named_row pattern valid (codes "MVS.CANCEL.JOB") AnyUnit tt cancel_job,
-          (
-            named_row pattern valid (codes "MVS.CANCEL.TSU") AnyUnit tt cancel_tsu,
-            (
-              named_row pattern valid (codes "MVS.FORCE.JOB") AnyUnit tt force_job,
-              (
-                named_row pattern valid (codes "MVS.FORCE.TSU") AnyUnit tt force_tsu,
-                (
-                  named_row pattern valid (codes "MVS.STOP.JOB") AnyUnit tt stop_job,
-                  (
-                    named_row pattern valid (codes "MVS.MODIFY.JOB") AnyUnit tt modify_job,
-                    (
-                      task_row pattern valid (codes "MVS.START.STC") start_stc,
-                      (
-                        task_row pattern valid (codes "MVS.CANCEL.STC") cancel_stc,
-                        (
-                          task_row pattern valid (codes "MVS.FORCE.STC") force_stc,
-                          (
-                            task_row pattern valid (codes "MVS.STOP.STC") stop_stc,
-                            (task_row pattern valid (codes "MVS.MODIFY.STC") modify_stc, tt),
-                          ),
-                        ),
-                      ),
-                    ),
-                  ),
-                ),
-              ),
-            ),
-          ),
-        ),
-      ),
-    ) h
+pub so_decides : (pattern : List ℕ) (before : List (List ℕ)) → decides pattern before ≡ true → Decides pattern before
+so_decides pattern before h =
+    elim (or_cases (list_any (decides_of pattern before) fixed_forms) (list_any (decides_of pattern before) named_forms) h) [
+      | inl e ↦ one_decides fixed_forms pattern before fixed_asked e
+      | inr e ↦ one_decides named_forms pattern before named_asked e
+    ]

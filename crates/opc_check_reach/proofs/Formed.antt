@@ -22,10 +22,12 @@ use Rattle.std.proofs.Common.{
   inl,
   inr,
 }
+use Rattle.std.specs.Prelude.{◌↔◌, IsTrue}
+use Rattle.std.specs.Cmp.{both_ways}
 use Rattle.std.specs.List.{slice_get, list_any, AllByRecursion}
 use Rattle.std.proofs.lemmas.Option.{same_Some}
-use Rattle.opc_names.specs.Names.{IsPattern}
-use Rattle.opc_names.specs.Patterns.{CoversText}
+use Rattle.opc_names.specs.Names.{qualifiers}
+use Rattle.opc_names.specs.Patterns.{covers_text}
 use Rattle.opc_terms.specs.declared.need.Need.{Need}
 use Rattle.opc_terms.specs.declared.unit_kind.UnitKindAt.{UnitKindAt}
 use Rattle.opc_terms.specs.declared.unit_kind.UnitKindAt.TheVariants.{Absent, Job, Stc, Tsu}
@@ -63,12 +65,23 @@ use Rattle.opc_reader_commands.specs.declared.command.Command.TheVariants.{
 }
 use Rattle.opc_reader.specs.Lines.{Reads}
 use Rattle.opc_table.specs.Table.{need, qualified, started}
-use Rattle.opc_check_reach.specs.Forms.{Qualifier, AnyUnit, AnyConsole, form, fixed_forms, named_forms, meets}
-use Rattle.opc_check_reach.specs.Reach.{IsKind, IsAsked, IsMet}
-use Rattle.opc_check_reach.proofs.Asked.{Tokens}
-use Rattle.opc_check_reach.proofs.Meeting.{or_left, or_right}
-use Rattle.opc_check_reach.proofs.Plain.{pattern_good}
-use Rattle.opc_check_reach.proofs.Texts.{IsAny, Made, form_met}
+use Rattle.opc_check_reach.specs.Forms.{
+  AnyConsole,
+  AnyUnit,
+  Qualifier,
+  decides,
+  decides_of,
+  decides_parts,
+  fixed_forms,
+  form,
+  named_forms,
+}
+use Rattle.opc_check_reach.specs.Laws.{FormsAreAsked}
+use Rattle.opc_check_reach.specs.Reach.{Decides, IsKind, IsAsked, IsMet}
+use Rattle.opc_check_reach.proofs.Asked.{so_decides}
+use Rattle.opc_check_reach.proofs.Deciding.{covers_none, covers_true, none_covers, parts_decide}
+use Rattle.opc_check_reach.proofs.Texts.{IsAny, Made, made_form}
+use Rattle.opc_check_reach.proofs.Trying.{or_left, or_right, resource_some}
 use Rattle.opc_check_reach.proofs.Typed.{IsUnitName}
 
 -- a resource of one of some forms
@@ -167,25 +180,50 @@ asked_formed resource (inr (inr (name, h, e))) = inr (record {
   made = (name, h, e);
 })
 
--- and a pattern that covers it meets the form
-any_at : (test : List Qualifier → Bool) (fss : List (List Qualifier)) (i : ℕ) (fs : List Qualifier) → slice_get fss i ≡ Some fs
-    → test fs ≡ true → list_any test fss ≡ true
+-- and a pattern that decides it decides a resource of this form
+any_at : (test : List Qualifier → Bool) (forms : List (List Qualifier)) (i : ℕ) (fs : List Qualifier) → slice_get forms i ≡ Some fs
+    → test fs ≡ true → list_any test forms ≡ true
 any_at test [] i fs e h = cc
-any_at test (gs ∷ fss) zero fs e h = or_left _ _ (ap test (same_Some gs fs e) ∙ h)
-any_at test (gs ∷ fss) (suc i) fs e h = or_right _ _ (any_at test fss i fs e h)
+any_at test (gs ∷ forms) zero fs e h = or_left _ _ (ap test (same_Some gs fs e) ∙ h)
+any_at test (gs ∷ forms) (suc i) fs e h = or_right _ _ (any_at test forms i fs e h)
 
-formed_met : (pattern resource : List ℕ) (forms : List (List Qualifier)) → IsPattern pattern → CoversText pattern resource
-    → IsFormed forms resource → list_any (meets (Tokens pattern)) forms ≡ true
-formed_met pattern resource forms valid covered f =
-    any_at (meets (Tokens pattern)) forms f.place (form f.words f.names) f.at_place
-    (form_met f.words f.names (Tokens pattern) resource f.any (pattern_good pattern valid) f.made covered)
+formed_decides : (pattern : List ℕ) (before : List (List ℕ)) (resource : List ℕ) (forms : List (List Qualifier))
+    → decides_parts pattern before (qualifiers resource) ≡ true → IsFormed forms resource
+    → list_any (decides_of pattern before) forms ≡ true
+formed_decides pattern before resource forms says f =
+    any_at (decides_of pattern before) forms f.place (form f.words f.names) f.at_place
+    (resource_some (form f.words f.names) (decides_parts pattern before) (qualifiers resource) (made_form f.words f.names resource f.any f.made) says)
 
-abbrev pub Meets : List ℕ → Type 0
-Meets pattern = (list_any (meets (Tokens pattern)) fixed_forms ≡ true) ⊎ (list_any (meets (Tokens pattern)) named_forms ≡ true)
-
-pub met_meets : (pattern : List ℕ) → IsPattern pattern → IsMet pattern → Meets pattern
-met_meets pattern valid (resource, asked, covered) =
+pub decides_so : (pattern : List ℕ) (before : List (List ℕ)) → Decides pattern before → decides pattern before ≡ true
+decides_so pattern before (resource, asked, covered, uncovered) =
+    let says = parts_decide pattern before (qualifiers resource) covered uncovered in
     elim (asked_formed resource asked) [
-      | inl f ↦ inl (formed_met pattern resource fixed_forms valid covered f)
-      | inr f ↦ inr (formed_met pattern resource named_forms valid covered f)
+      | inl f ↦ or_left _ _ (formed_decides pattern before resource fixed_forms says f)
+      | inr f ↦ or_right _ _ (formed_decides pattern before resource named_forms says f)
     ]
+
+pub forms_asked : FormsAreAsked
+forms_asked pattern before = (λ h. so_decides pattern before h, λ h. decides_so pattern before h)
+
+-- a pattern is met exactly if it decides where nothing comes before
+pub met_decides : (pattern : List ℕ) → IsTrue (decides pattern []) ↔ IsMet pattern
+met_decides pattern = (
+  λ h. let decided = so_decides pattern [] h in (decided.0, decided.1, decided.2),
+  λ m. decides_so pattern [] (m.0, m.1, m.2, tt),
+)
+
+-- of a pattern it is enough which resources that it covers are covered by what comes before
+pub same_decides : (pattern : List ℕ) (before other : List (List ℕ))
+    → ((resource : List ℕ) → covers_text pattern resource ≡ true
+    → list_any (λ (q : List ℕ). covers_text q resource) before ≡ list_any (λ (q : List ℕ). covers_text q resource) other)
+    → decides pattern before ≡ decides pattern other
+same_decides pattern before other same =
+    both_ways _ _ (λ h. decides_so pattern other (swapped before other same (so_decides pattern before h)))
+    (λ h. decides_so pattern before (swapped other before (λ r c. sym (same r c)) (so_decides pattern other h)))
+  where
+    swapped : (xs ys : List (List ℕ)) → ((resource : List ℕ) → covers_text pattern resource ≡ true
+        → list_any (λ (q : List ℕ). covers_text q resource) xs ≡ list_any (λ (q : List ℕ). covers_text q resource) ys)
+        → Decides pattern xs → Decides pattern ys
+    swapped xs ys alike (resource, asked, covered, uncovered) =
+        let all = alike resource (covers_true pattern (qualifiers resource) covered) in
+        (resource, asked, covered, covers_none ys (qualifiers resource) (sym all ∙ none_covers xs (qualifiers resource) uncovered))

@@ -1,11 +1,8 @@
-pub mod MetSuffixes
-pub mod Names
-pub mod Plain
-pub mod Witness
-pub mod Meeting
-pub mod Texts
 pub mod Typed
-pub mod Examples
 pub mod Asked
+pub mod Texts
 pub mod Formed
+pub mod Trying
+pub mod Deciding
 pub mod Worked
+pub mod Examples

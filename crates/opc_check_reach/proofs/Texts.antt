@@ -2,10 +2,6 @@
 use Rattle.std.proofs.Common.{
   ◌≡◌,
   ℕ,
-  ◌==◌,
-  true,
-  false,
-  cond,
   List,
   [],
   ◌∷◌,
@@ -18,30 +14,13 @@ use Rattle.std.proofs.Common.{
   subst,
   append_assoc,
 }
-use Rattle.std.specs.List.{onto_first, AllByRecursion}
+use Rattle.std.specs.List.{AllByRecursion}
 use Rattle.std.proofs.lemmas.List.{append-nil}
-use Rattle.opc_names.specs.declared.token.Token.{Token}
 use Rattle.opc_names.specs.Names.{unit_rule, console_rule, qualifiers}
-use Rattle.opc_names.specs.Patterns.{Covers}
-use Rattle.opc_names.proofs.Parts.{qualifiers_some}
 use Rattle.opc_table.specs.Table.{qualified}
-use Rattle.opc_check_reach.specs.Forms.{Qualifier, Word, AnyUnit, AnyConsole, IsOf, AreOf, form, meets}
-use Rattle.opc_check_reach.proofs.Names.{unit_usual, console_usual, name_characters, one_qualifier}
-use Rattle.opc_check_reach.proofs.Plain.{IsGood}
-use Rattle.opc_check_reach.proofs.Meeting.{reached, met}
-
-onto_append : (c : ℕ) (xs ys : List (List ℕ)) → (xs ≡ [] → ⊥) → onto_first c (xs ++ ys) ≡ onto_first c xs ++ ys
-onto_append c [] ys h = absurd (h refl)
-onto_append c (x ∷ xs) ys h = refl
-
-qualifiers_period : (a b : List ℕ) → qualifiers (a ++ 46 ∷ b) ≡ qualifiers a ++ qualifiers b
-qualifiers_period [] b = refl
-qualifiers_period (c ∷ a) b =
-    elim (c == 46) as (λ v. cond v ([] ∷ qualifiers (a ++ 46 ∷ b)) (onto_first c (qualifiers (a ++ 46 ∷ b))) ≡ cond v
-    ([] ∷ qualifiers a) (onto_first c (qualifiers a)) ++ qualifiers b) [
-      | true ↦ ap (λ t. [] ∷ t) (qualifiers_period a b)
-      | false ↦ ap (onto_first c) (qualifiers_period a b) ∙ onto_append c (qualifiers a) (qualifiers b) (qualifiers_some a)
-    ]
+use Rattle.opc_policy_witness.proofs.Names.{unit_usual, console_usual, name_characters, one_qualifier}
+use Rattle.opc_check_reach.specs.Forms.{Qualifier, Word, AnyUnit, AnyConsole, IsOf, AreOf, form}
+use Rattle.opc_check_reach.proofs.Deciding.{qualifiers_period}
 
 -- words, and names after them
 abbrev pub Made : List ℕ → List Qualifier → List ℕ → Type 0
@@ -93,19 +72,16 @@ after_words (w ∷ ws) fs (s ∷ x) a =
     let more = after_words ws fs x a.1 in
     (more.0, more.1, ap (λ y. s ∷ y) more.2 ∙ ap (λ y. y ∷ (ws ++ more.0)) a.0)
 
--- what a pattern covers of the resources that are made like this
-pub form_reached : (words : List ℕ) (fs : List Qualifier) (p : List (List Token)) → AllByRecursion IsAny fs → AllByRecursion IsGood p
-    → meets p (form words fs) ≡ true → (resource : List ℕ) × Made words fs resource × Covers p (qualifiers resource)
-form_reached words fs p n g h =
-    let found = reached p (form words fs) g h in
-    let rest = after_words (qualifiers words) fs found.0 found.1 in
+-- a resource with the qualifiers of a form is made like this, and the other way round
+pub form_made : (words : List ℕ) (fs : List Qualifier) (r : List (List ℕ)) → AllByRecursion IsAny fs → AreOf (form words fs) r
+    → (resource : List ℕ) × Made words fs resource × (qualifiers resource ≡ r)
+form_made words fs r n are =
+    let rest = after_words (qualifiers words) fs r are in
     let more = made fs words rest.0 n rest.1 in
-    (more.0, more.1, subst (λ y. Covers p y) (rest.2 ∙ sym more.2) found.2)
+    (more.0, more.1, more.2 ∙ sym rest.2)
 
-pub form_met : (words : List ℕ) (fs : List Qualifier) (p : List (List Token)) (resource : List ℕ) → AllByRecursion IsAny fs
-    → AllByRecursion IsGood p → Made words fs resource → Covers p (qualifiers resource) → meets p (form words fs) ≡ true
-form_met words fs p resource n g m h =
+pub made_form : (words : List ℕ) (fs : List Qualifier) (resource : List ℕ) → AllByRecursion IsAny fs → Made words fs resource
+    → AreOf (form words fs) (qualifiers resource)
+made_form words fs resource n m =
     let parts = unmade fs words resource n m in
-    let are : AreOf (form words fs) (qualifiers resource) =
-    subst (λ y. AreOf (form words fs) y) (sym parts.2) (with_words (qualifiers words) fs parts.0 parts.1) in
-    met p (form words fs) (qualifiers resource) g are h
+    subst (λ y. AreOf (form words fs) y) (sym parts.2) (with_words (qualifiers words) fs parts.0 parts.1)

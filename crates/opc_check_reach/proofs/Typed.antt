@@ -54,7 +54,7 @@ use Rattle.opc_reader.specs.Forms.{verb_of, parts, AreTyped, IsMeant}
 use Rattle.opc_reader.specs.Lines.{Reads, is_space, is_typeable}
 use Rattle.opc_reader.specs.Verbs.{verbs}
 use Rattle.opc_reader.proofs.Runs.{suffix_all}
-use Rattle.opc_check_reach.proofs.Names.{both, and_true, all_run, weaker_all, unit_usual, name_characters}
+use Rattle.opc_policy_witness.proofs.Names.{both, and_true, all_run, weaker_all, unit_usual, name_characters}
 
 -- characters other than the space that may be typed
 abbrev pub is_dark : ℕ → Bool

@@ -1,37 +1,15 @@
--- The forms of the resources about which the gate asks, and which patterns meet one of them, computed. The public call
--- is about `IsMet` of Reach. The note N17 is computed by these forms; a law of opc_answers_laws states that both are
--- the same.
-use Rattle.std.specs.Prelude.{
-  ◌≡◌,
-  ℕ,
-  ◌+◌,
-  ◌<◌,
-  Bool,
-  true,
-  false,
-  not,
-  ◌&&◌,
-  ◌||◌,
-  nat_le,
-  List,
-  [],
-  ◌∷◌,
-  ◌++◌,
-  map,
-  length,
-  codes,
-  None,
-  ⊤,
-}
+-- The forms of the resources about which the gate asks, and whether a resource of one of them passes a test. The public
+-- laws are about `IsAsked` of Reach. The notes N17 and N20 are computed by these forms; a law states that both are the
+-- same.
+use Rattle.std.specs.Prelude.{◌≡◌, ℕ, zero, suc, Bool, false, not, ◌&&◌, ◌||◌, List, [], ◌∷◌, ◌++◌, map, codes, None, is_none, ⊤}
 use Rattle.std.specs.Borrow.{Bor}
-use Rattle.std.specs.Char.{is_ascii_digit}
-use Rattle.std.specs.List.{list_any}
-use Rattle.opc_names.specs.declared.token.Token.{Token}
-use Rattle.opc_names.specs.declared.token.Token.TheVariants.{Literal, Percent, Star, Stars}
+use Rattle.std.specs.List.{AllByRecursion, list_any}
+use Rattle.opc_names.specs.declared.rule.NameRule.{NameRule}
 use Rattle.opc_names.specs.Names.{name_fault, unit_rule, console_rule, qualifiers}
-use Rattle.opc_names.specs.Patterns.{matches, ends_in_star, is_empty}
-use Rattle.opc_check_reach.specs.declared.part.FormPart.{FormPart}
-use Rattle.opc_check_reach.specs.declared.part.FormPart.TheVariants as part
+use Rattle.opc_policy_witness.specs.declared.forms.FormQualifier.{FormQualifier}
+use Rattle.opc_policy_witness.specs.declared.forms.FormQualifier.TheVariants as part
+use Rattle.opc_policy_witness.specs.Forms.{IsForm}
+use Rattle.opc_policy_witness.specs.Witness.{covers_parts}
 
 -- a qualifier of a resource, as it stands in a form: a fixed word, or any name of a unit or of a console
 pub data Qualifier : Type 0 where
@@ -39,18 +17,18 @@ pub data Qualifier : Type 0 where
   AnyUnit : Qualifier
   AnyConsole : Qualifier
 
-abbrev pub shape : FormPart → Qualifier
+abbrev pub shape : FormQualifier → Qualifier
 shape (part.Word text) = Word text.now
 shape part.AnyUnit = AnyUnit
 shape part.AnyConsole = AnyConsole
 
 -- forms as the code has them
-abbrev pub forms_of : List (Bor (List FormPart)) → List (List Qualifier)
+abbrev pub forms_of : List (Bor (List FormQualifier)) → List (List Qualifier)
 forms_of forms = map (λ form. map shape form.now) forms
 
--- a form has at most five qualifiers
-abbrev pub IsShort : List Qualifier → Type 0
-IsShort fs = length fs < 6
+-- whose texts are resources
+abbrev pub AreForms : List (Bor (List FormQualifier)) → Type 0
+AreForms forms = AllByRecursion (λ form. IsForm form.now) forms
 
 abbrev pub IsOf : Qualifier → List ℕ → Type 0
 IsOf (Word text) s = s ≡ text
@@ -86,44 +64,38 @@ named_forms =
     ∷ form (codes "MVS.FORCE.STC") (AnyUnit ∷ AnyUnit ∷ []) ∷ form (codes "MVS.STOP.STC") (AnyUnit ∷ AnyUnit ∷ [])
     ∷ form (codes "MVS.MODIFY.STC") (AnyUnit ∷ AnyUnit ∷ []) ∷ []
 
--- how many characters a qualifier of a pattern has before its `*`
-abbrev pub characters : List Token → ℕ
-characters [] = 0
-characters (Literal c ∷ q) = characters q + 1
-characters (Percent ∷ q) = characters q + 1
-characters (Star ∷ q) = 0
-characters (Stars ∷ q) = 0
+-- whether some number below a bound passes a test
+unfoldable pub any_below : ℕ → (ℕ → Bool) → Bool
+any_below zero test = false
+any_below (suc n) test = test n || any_below n test
 
-abbrev pub begins_with_digit : List Token → Bool
-begins_with_digit [] = false
-begins_with_digit (Literal c ∷ q) = is_ascii_digit c
-begins_with_digit (Percent ∷ q) = false
-begins_with_digit (Star ∷ q) = false
-begins_with_digit (Stars ∷ q) = false
+-- whether some ASCII text of at most so many characters does
+unfoldable pub any_text : ℕ → (List ℕ → Bool) → Bool
+any_text zero test = test []
+any_text (suc n) test = test [] || any_below 128 (λ c. any_text n (λ s. test (c ∷ s)))
 
--- whether it matches some text of at least so many characters and at most eight
-abbrev pub has_room : ℕ → List Token → Bool
-has_room least q = nat_le (characters q) 8 && (ends_in_star q || nat_le least (characters q))
+-- whether some name by a rule does, of those with at most eight characters
+abbrev pub any_name : NameRule → (List ℕ → Bool) → Bool
+any_name rule test = any_text 8 (λ s. is_none (name_fault rule s) && test s)
 
--- whether it matches a fixed word, or some name
-abbrev pub fits : List Token → Qualifier → Bool
-fits q (Word text) = matches q text
-fits q AnyUnit = has_room 1 q
-fits q AnyConsole = has_room 2 q && not (begins_with_digit q)
+abbrev pub any_qualifier : Qualifier → (List ℕ → Bool) → Bool
+any_qualifier (Word text) test = test text
+any_qualifier AnyUnit test = any_name unit_rule test
+any_qualifier AnyConsole test = any_name console_rule test
 
--- the suffixes of a form, longest first
-abbrev pub form_suffixes : List Qualifier → List (List Qualifier)
-form_suffixes [] = [] ∷ []
-form_suffixes (f ∷ fs) = (f ∷ fs) ∷ form_suffixes fs
+-- whether some resource of a form passes a test of its qualifiers
+abbrev pub any_resource : List Qualifier → (List (List ℕ) → Bool) → Bool
+any_resource [] test = test []
+any_resource (f ∷ fs) test = any_qualifier f (λ s. any_resource fs (λ r. test (s ∷ r)))
 
--- whether a pattern covers some resource of a form, as `covers` does for one resource
-abbrev pub meets : List (List Token) → List Qualifier → Bool
-meets [] [] = true
-meets [] (f ∷ fs) = false
-meets ((Stars ∷ q) ∷ p) fs = list_any (meets p) (form_suffixes fs)
-meets (q ∷ p) [] = false
-meets (q ∷ p) (f ∷ fs) = fits q f && (is_empty p && ends_in_star q || meets p fs)
+-- whether a pattern covers a resource and none of those before it does, so that it decides the resource
+abbrev pub decides_parts : (pattern : List ℕ) → (before : List (List ℕ)) → List (List ℕ) → Bool
+decides_parts pattern before parts = covers_parts parts pattern && not (list_any (covers_parts parts) before)
 
--- for each suffix of a form, longest first, whether a pattern meets it
-abbrev pub met_suffixes : List (List Token) → List Qualifier → List Bool
-met_suffixes p fs = map (meets p) (form_suffixes fs)
+-- whether it decides a resource of a form, of one of some forms, and one about which the gate asks
+abbrev pub decides_of : List ℕ → List (List ℕ) → List Qualifier → Bool
+decides_of pattern before form = any_resource form (decides_parts pattern before)
+
+abbrev pub decides : (pattern : List ℕ) → (before : List (List ℕ)) → Bool
+decides pattern before =
+    list_any (decides_of pattern before) fixed_forms || list_any (decides_of pattern before) named_forms

@@ -1,8 +1,9 @@
 -- Which patterns are met, for those who write a policy.
-use Rattle.std.specs.Prelude.{◌≡◌, ℕ, List, [], ◌∷◌, codes}
+use Rattle.std.specs.Prelude.{◌≡◌, ◌↔◌, IsTrue, ℕ, List, [], ◌∷◌, codes}
 use Rattle.std.specs.List.{AllByRecursion}
 use Rattle.opc_names.specs.Names.{qualifiers}
-use Rattle.opc_check_reach.specs.Reach.{IsMet}
+use Rattle.opc_check_reach.specs.Forms.{decides}
+use Rattle.opc_check_reach.specs.Reach.{Decides, IsMet}
 
 -- the patterns of the base policy are met
 abbrev pub BasePatternsAreMet : Type 0
@@ -21,3 +22,7 @@ MistypedAreNotMet =
 -- a pattern of `**` alone is met
 abbrev pub StarsAreMet : Type 0
 StarsAreMet = (pattern : List ℕ) → AllByRecursion (λ q. q ≡ codes "**") (qualifiers pattern) → IsMet pattern
+
+-- what is computed by the forms is whether a pattern decides a resource about which the gate asks
+abbrev pub FormsAreAsked : Type 0
+FormsAreAsked = (pattern : List ℕ) (before : List (List ℕ)) → IsTrue (decides pattern before) ↔ Decides pattern before

@@ -1,5 +1,6 @@
 -- The resources of class OPERCMDS about which the gate asks, and the patterns that cover one of them.
 use Rattle.std.specs.Prelude.{◌≡◌, ℕ, List, ◌⊎◌, ⊤, Some, None, codes}
+use Rattle.std.specs.List.{AllByRecursion}
 use Rattle.opc_names.specs.Names.{name_fault, unit_rule, console_rule}
 use Rattle.opc_names.specs.Patterns.{CoversText}
 use Rattle.opc_terms.specs.declared.need.Need.{Need}
@@ -43,3 +44,8 @@ IsAsked resource = IsNeeded resource ⊎ (ShowsUnit resource ⊎ ShowsConsole re
 -- the pattern covers a resource about which the gate asks
 abbrev pub IsMet : List ℕ → Type 0
 IsMet pattern = (resource : List ℕ) × IsAsked resource × CoversText pattern resource
+
+-- it decides such a resource, if these come before it: it covers the resource, and none of them does
+abbrev pub Decides : (pattern : List ℕ) → (before : List (List ℕ)) → Type 0
+Decides pattern before = (resource : List ℕ) × IsAsked resource × CoversText pattern resource
+    × AllByRecursion (λ (other : List ℕ). CoversText other resource → ⊥) before

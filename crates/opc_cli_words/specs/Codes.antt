@@ -12,7 +12,8 @@ abbrev pub note_codes : List (List ℕ)
 note_codes =
     codes "N01" ∷ codes "N02" ∷ codes "N03" ∷ codes "N04" ∷ codes "N05" ∷ codes "N06"
     ∷ codes "N08" ∷ codes "N09" ∷ codes "N10" ∷ codes "N11" ∷ codes "N12" ∷ codes "N13"
-    ∷ codes "N14" ∷ codes "N15" ∷ codes "N16" ∷ codes "N17" ∷ codes "N18" ∷ codes "N19" ∷ []
+    ∷ codes "N14" ∷ codes "N15" ∷ codes "N16" ∷ codes "N17" ∷ codes "N18" ∷ codes "N19"
+    ∷ codes "N20" ∷ []
 
 abbrev pub is_note_code : List ℕ → Bool
 is_note_code text = list_any (bytes_eq text) note_codes

@@ -17,9 +17,9 @@ use opc_cli_tasks::question::{PolicyCheck, PolicyQuestion};
 use opc_cli_tasks::task::Task;
 
 /// The codes of notes.
-const NOTES: [&str; 18] = [
+const NOTES: [&str; 19] = [
     "N01", "N02", "N03", "N04", "N05", "N06", "N08", "N09", "N10", "N11", "N12", "N13", "N14",
-    "N15", "N16", "N17", "N18", "N19",
+    "N15", "N16", "N17", "N18", "N19", "N20",
 ];
 
 fn is_among(codes: &[&str], text: &str) -> bool

@@ -66,7 +66,7 @@ fn taken_by_any(option: Opt) -> &'static str {
             "a time as 2026-11-27T08:00:00Z, a day as 2026-11-27, @ and 0 to 9999999999999, or how long ago as -8h"
         }
         Opt::Code => "a code as E20, or E2* for all that begin so, with commas between several",
-        Opt::Allow => "N01 to N06 or N08 to N19, with commas between several",
+        Opt::Allow => "N01 to N06 or N08 to N20, with commas between several",
         // No value of these is a mistake.
         Opt::Command | Opt::Now | Opt::Strict => "another value",
     }

@@ -44,7 +44,7 @@ OTHERS = {
     "explain": "ALLOWED DENIED HIDDEN NOLOGON UNDECIDED E01 E02 E03 E04 E05 E06 E10 E53 words",
     "who": "E01 E02 E03 E04 E05 E06 E10 answered words", "account": "rows words", "digest": "done",
     "check": "good Header Columns Kind Class Name Id Value Owner Flags Digest When Restricted E52 E53 N01 N02 N03 N04"
-    " N05 N06 N08 N09 N10 N11 N12 N13 N14 N15 N16 N17 N18 N19",
+    " N05 N06 N08 N09 N10 N11 N12 N13 N14 N15 N16 N17 N18 N19 N20",
     "HTTP": "H400 H403 H404 H405 H413",
 }
 BRANCHES = {

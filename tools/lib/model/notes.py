@@ -51,6 +51,11 @@ class Known:
                 return row["value"]
         return None
 
+    def before(self, pattern: str) -> list[str]:
+        """The patterns of OPERCMDS that come before one."""
+        others = (row["name"] for row in self.of("profile") if row["class"] == "OPERCMDS")
+        return [other for other in others if names.before(other, pattern)]
+
     def has_auto_console(self, user: str) -> bool:
         return any(row["name"] == user and row["flags"] == "AUTO" for row in self.of("console"))
 
@@ -58,7 +63,7 @@ class Known:
         return any(row["name"] == name for row in self.of("user"))
 
 
-def of_profile(_: Known, row: Fields) -> Iterator[tuple[str, str]]:
+def of_profile(known: Known, row: Fields) -> Iterator[tuple[str, str]]:
     profile = f"profile {row['class']} {row['name']}"
     if row["flags"] == "W":
         yield "N01", f"{profile} has WARNING"
@@ -66,6 +71,8 @@ def of_profile(_: Known, row: Fields) -> Iterator[tuple[str, str]]:
         yield "N02", f"{profile} gives everyone {row['value']}"
     if row["class"] == "OPERCMDS" and not asked.is_asked(row["name"]):
         yield "N17", f"{profile} covers no resource of any command"
+    elif row["class"] == "OPERCMDS" and not asked.decides(row["name"], known.before(row["name"])):
+        yield "N20", f"{profile} never decides: others come before it"
 
 
 def of_user(known: Known, row: Fields) -> Iterator[tuple[str, str]]:

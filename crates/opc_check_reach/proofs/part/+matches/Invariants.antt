@@ -1,5 +1,0 @@
-use Rattle.std.proofs.Common.{length}
-use Rattle.opc_check_reach.proofs.part.+matches.Given as goal
-
-abbrev pub decreases-matches : goal.decreases-matches
-decreases-matches l = length l.qualifier.now

@@ -1,42 +1,15 @@
--- A profile has N17 exactly if its pattern is not met.
-use Rattle.std.proofs.Common.{◌≡◌, ◌⊎◌, inl, inr, Bool, true, false, ◌||◌, ℕ, List, map, refl, ap, None}
+-- A profile has N17 exactly if its pattern is not met, and one that is met has N20 exactly if it decides nothing.
+use Rattle.std.proofs.Common.{◌≡◌, Bool, true, false, ◌&&◌, ℕ, List, refl, sym, ap, ◌∙◌, None}
 use Rattle.std.specs.Prelude.{not}
-use Rattle.std.specs.List.{list_any}
-use Rattle.opc_names.specs.Names.{IsPattern, qualifiers}
-use Rattle.opc_names.specs.Patterns.{tokens}
-use Rattle.opc_check_reach.specs.Forms.{fixed_forms, meets, named_forms}
-use Rattle.opc_check_reach.specs.Reach.{IsMet}
-use Rattle.opc_check_reach.proofs.Asked.{fixed_asked, named_asked}
-use Rattle.opc_check_reach.proofs.Formed.{met_meets}
+use Rattle.opc_check_reach.specs.Forms.{decides}
+use Rattle.opc_check_reach.proofs.Asked.{so_decides}
+use Rattle.opc_check_reach.proofs.Formed.{decides_so, met_decides}
 use Rattle.opc_check_notes.specs.declared.note.Finding.{Finding}
+use Rattle.opc_check_notes.specs.declared.note.Finding.TheVariants as found
 use Rattle.opc_check_notes.specs.Met.{is_met}
 use Rattle.opc_check_notes.specs.Notes.{if_so}
-use Rattle.opc_answers_laws.specs.NoteLaws.{NotedUnlessMet}
-
-either_true : (a b : Bool) → (a || b) ≡ true → (a ≡ true) ⊎ (b ≡ true)
-either_true true b h = inl refl
-either_true false b h = inr h
-
-or_true : (a b : Bool) → (a ≡ true) ⊎ (b ≡ true) → (a || b) ≡ true
-or_true a b (inl h) = ap (λ t. t || b) h
-or_true true b (inr h) = refl
-or_true false b (inr h) = h
-
-met_if : (pattern : List ℕ) → IsPattern pattern → is_met pattern ≡ true → IsMet pattern
-met_if pattern valid h = go (either_true fixed named h)
-  where
-    fixed : Bool
-    fixed = list_any (meets (map tokens (qualifiers pattern))) fixed_forms
-
-    named : Bool
-    named = list_any (meets (map tokens (qualifiers pattern))) named_forms
-
-    go : (fixed ≡ true) ⊎ (named ≡ true) → IsMet pattern
-    go (inl g) = fixed_asked pattern valid g
-    go (inr g) = named_asked pattern valid g
-
-met_only : (pattern : List ℕ) → IsPattern pattern → IsMet pattern → is_met pattern ≡ true
-met_only pattern valid h = or_true _ _ (met_meets pattern valid h)
+use Rattle.opc_check_notes.specs.Preceding.{all_before}
+use Rattle.opc_answers_laws.specs.NoteLaws.{NotedUnlessDeciding, NotedUnlessMet}
 
 -- nothing is found exactly if the test fails
 none_if : (holds : Bool) (finding : Finding) → holds ≡ true → if_so (not holds) finding ≡ None
@@ -48,4 +21,16 @@ none_only false finding h = cc h
 
 pub noted_unless_met : NotedUnlessMet
 noted_unless_met pattern uacc owner warns valid =
-    (λ none. met_if pattern valid (none_only (is_met pattern) _ none), λ met. none_if (is_met pattern) _ (met_only pattern valid met))
+    (λ none. (met_decides pattern).0 (none_only (is_met pattern) _ none), λ met. none_if (is_met pattern) _ ((met_decides pattern).1 met))
+
+pub noted_unless_deciding : NotedUnlessDeciding
+noted_unless_deciding list pattern uacc owner warns met = (
+  λ none. so_decides pattern (all_before list pattern)
+      (none_only (decides pattern (all_before list pattern)) (found.NeverDecides pattern) (sym of_met ∙ none)),
+  λ decided. of_met ∙ none_if (decides pattern (all_before list pattern)) (found.NeverDecides pattern) (decides_so pattern (all_before list pattern) decided),
+)
+  where
+    of_met : if_so (is_met pattern && not (decides pattern (all_before list pattern))) (found.NeverDecides pattern)
+        ≡ if_so (not (decides pattern (all_before list pattern))) (found.NeverDecides pattern)
+    of_met = ap (λ b. if_so (b && not (decides pattern (all_before list pattern))) (found.NeverDecides pattern))
+        ((met_decides pattern).1 met)

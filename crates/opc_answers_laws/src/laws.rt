@@ -1,6 +1,11 @@
 //! Laws on answers for people; each law is what a call without a body ensures.
 ghost use Rattle.opc_answers_laws.specs.CheckLaws.{FoundIsTaken, TakenIfNoneIsRefused, TakenIsFound};
-ghost use Rattle.opc_answers_laws.specs.NoteLaws.{NotedUnlessMet, RowsInEffectAreStored, StoredRowsAreInEffect};
+ghost use Rattle.opc_answers_laws.specs.NoteLaws.{
+  NotedUnlessDeciding,
+  NotedUnlessMet,
+  RowsInEffectAreStored,
+  StoredRowsAreInEffect,
+};
 ghost use Rattle.opc_answers_laws.specs.ReachLaws.{
   CommandsAskSo,
   LinesAskSo,
@@ -51,6 +56,12 @@ pub fn rows_in_effect()
 /// A profile has the note N17 exactly if the gate asks about no resource that its pattern covers.
 pub fn profiles_that_are_not_met()
     ensures { NotedUnlessMet }
+{}
+
+/// One that covers such a resource has the note N20 exactly if each that it covers is covered by a pattern that comes
+/// before.
+pub fn profiles_that_never_decide()
+    ensures { NotedUnlessDeciding }
 {}
 
 /// Every resource about which a ruling on a command or the showing of a line asks is one that `opc_check_reach` counts.

@@ -1,0 +1,6 @@
+pub mod Between
+pub mod Covering
+pub mod Explained
+pub mod Finding
+pub mod Listing
+pub mod Standing

@@ -1,0 +1,10 @@
+use Rattle.std.proofs.Common.{[]}
+use Rattle.opc_policy_deciders.specs.Between.{IsBetween}
+use Rattle.opc_policy_deciders.specs.Forms.{forms}
+use Rattle.opc_policy_deciders.proofs.Listing.{all_added}
+use Rattle.opc_policy_deciders.proofs.decided.decided_by_none.Goals as goal
+
+pub returns : goal.returns
+returns c =
+    all_added (IsBetween [] c.args.patterns.now) forms c.new-list.result.items c.push_between.new.list.items c.new-list.ensures.items
+    c.in_ok-push_between.ensures

@@ -1,0 +1,6 @@
+pub mod Between
+pub mod Decided
+pub mod Forms
+pub mod Kinds
+pub mod Laws
+pub mod Near

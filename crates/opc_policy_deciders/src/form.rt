@@ -1,0 +1,230 @@
+//! The forms of the resources of class OPERCMDS about which the gate asks: it asks what commands need, and what showing
+//! a line of an answer needs.
+use opc_names::group::Group::{self, Cons, Info, Io, Master, Sys};
+use opc_names::level::Level::{self, Control, Read, Update};
+use opc_policy_witness::forms::FormQualifier::{self, AnyConsole, AnyUnit, Word};
+
+/// A form: its name in lists, the level and the group of the commands that ask about its resources, whether it is a line
+/// of an answer that does, and what its resources look like.
+#[derive(Clone, Copy)]
+pub struct ResourceForm {
+    pub name: &'static str,
+    pub level: Level,
+    pub group: Group,
+    pub is_line: bool,
+    pub qualifiers: &'static [FormQualifier],
+}
+
+/// The forms, in the order of the command table.
+pub const FORMS: [ResourceForm; 30] = [
+    ResourceForm {
+        name: "D A",
+        level: Read,
+        group: Info,
+        is_line: false,
+        qualifiers: &[Word("MVS"), Word("DISPLAY"), Word("JOB")],
+    },
+    ResourceForm {
+        name: "D U",
+        level: Read,
+        group: Info,
+        is_line: false,
+        qualifiers: &[Word("MVS"), Word("DISPLAY"), Word("U")],
+    },
+    ResourceForm {
+        name: "D C",
+        level: Read,
+        group: Info,
+        is_line: false,
+        qualifiers: &[Word("MVS"), Word("DISPLAY"), Word("CN")],
+    },
+    ResourceForm {
+        name: "D R",
+        level: Read,
+        group: Info,
+        is_line: false,
+        qualifiers: &[Word("MVS"), Word("DISPLAY"), Word("R")],
+    },
+    ResourceForm {
+        name: "unit line",
+        level: Read,
+        group: Info,
+        is_line: true,
+        qualifiers: &[Word("MVS"), Word("DISPLAY"), Word("JOB"), AnyUnit],
+    },
+    ResourceForm {
+        name: "console line",
+        level: Read,
+        group: Info,
+        is_line: true,
+        qualifiers: &[Word("MVS"), Word("DISPLAY"), Word("CN"), AnyConsole],
+    },
+    ResourceForm {
+        name: "C JOB",
+        level: Update,
+        group: Sys,
+        is_line: false,
+        qualifiers: &[Word("MVS"), Word("CANCEL"), Word("JOB"), AnyUnit],
+    },
+    ResourceForm {
+        name: "C STC",
+        level: Update,
+        group: Sys,
+        is_line: false,
+        qualifiers: &[Word("MVS"), Word("CANCEL"), Word("STC"), AnyUnit, AnyUnit],
+    },
+    ResourceForm {
+        name: "C TSU",
+        level: Update,
+        group: Sys,
+        is_line: false,
+        qualifiers: &[Word("MVS"), Word("CANCEL"), Word("TSU"), AnyUnit],
+    },
+    ResourceForm {
+        name: "FORCE JOB",
+        level: Control,
+        group: Master,
+        is_line: false,
+        qualifiers: &[Word("MVS"), Word("FORCE"), Word("JOB"), AnyUnit],
+    },
+    ResourceForm {
+        name: "FORCE STC",
+        level: Control,
+        group: Master,
+        is_line: false,
+        qualifiers: &[Word("MVS"), Word("FORCE"), Word("STC"), AnyUnit, AnyUnit],
+    },
+    ResourceForm {
+        name: "FORCE TSU",
+        level: Control,
+        group: Master,
+        is_line: false,
+        qualifiers: &[Word("MVS"), Word("FORCE"), Word("TSU"), AnyUnit],
+    },
+    ResourceForm {
+        name: "S",
+        level: Update,
+        group: Sys,
+        is_line: false,
+        qualifiers: &[Word("MVS"), Word("START"), Word("STC"), AnyUnit, AnyUnit],
+    },
+    ResourceForm {
+        name: "P JOB",
+        level: Update,
+        group: Sys,
+        is_line: false,
+        qualifiers: &[Word("MVS"), Word("STOP"), Word("JOB"), AnyUnit],
+    },
+    ResourceForm {
+        name: "P STC",
+        level: Update,
+        group: Sys,
+        is_line: false,
+        qualifiers: &[Word("MVS"), Word("STOP"), Word("STC"), AnyUnit, AnyUnit],
+    },
+    ResourceForm {
+        name: "F JOB",
+        level: Update,
+        group: Sys,
+        is_line: false,
+        qualifiers: &[Word("MVS"), Word("MODIFY"), Word("JOB"), AnyUnit],
+    },
+    ResourceForm {
+        name: "F STC",
+        level: Update,
+        group: Sys,
+        is_line: false,
+        qualifiers: &[Word("MVS"), Word("MODIFY"), Word("STC"), AnyUnit, AnyUnit],
+    },
+    ResourceForm {
+        name: "R",
+        level: Read,
+        group: Info,
+        is_line: false,
+        qualifiers: &[Word("MVS"), Word("REPLY")],
+    },
+    ResourceForm {
+        name: "V dev",
+        level: Update,
+        group: Io,
+        is_line: false,
+        qualifiers: &[Word("MVS"), Word("VARY"), Word("DEV")],
+    },
+    ResourceForm {
+        name: "M",
+        level: Update,
+        group: Io,
+        is_line: false,
+        qualifiers: &[Word("MVS"), Word("MOUNT")],
+    },
+    ResourceForm {
+        name: "U",
+        level: Update,
+        group: Io,
+        is_line: false,
+        qualifiers: &[Word("MVS"), Word("UNLOAD")],
+    },
+    ResourceForm {
+        name: "G",
+        level: Update,
+        group: Io,
+        is_line: false,
+        qualifiers: &[Word("MVS"), Word("SWAP")],
+    },
+    ResourceForm {
+        name: "V CN",
+        level: Update,
+        group: Cons,
+        is_line: false,
+        qualifiers: &[Word("MVS"), Word("VARY"), Word("CN")],
+    },
+    ResourceForm {
+        name: "V CN AUTH",
+        level: Control,
+        group: Master,
+        is_line: false,
+        qualifiers: &[Word("MVS"), Word("VARYAUTH"), Word("CN")],
+    },
+    ResourceForm {
+        name: "E",
+        level: Control,
+        group: Master,
+        is_line: false,
+        qualifiers: &[Word("MVS"), Word("RESET"), Word("CN")],
+    },
+    ResourceForm {
+        name: "SE",
+        level: Read,
+        group: Info,
+        is_line: false,
+        qualifiers: &[Word("MVS"), Word("SEND")],
+    },
+    ResourceForm {
+        name: "L",
+        level: Read,
+        group: Info,
+        is_line: false,
+        qualifiers: &[Word("MVS"), Word("LOG")],
+    },
+    ResourceForm {
+        name: "MN",
+        level: Read,
+        group: Info,
+        is_line: false,
+        qualifiers: &[Word("MVS"), Word("MONITOR")],
+    },
+    ResourceForm {
+        name: "PM",
+        level: Read,
+        group: Info,
+        is_line: false,
+        qualifiers: &[Word("MVS"), Word("STOPMN")],
+    },
+    ResourceForm {
+        name: "Z",
+        level: Update,
+        group: Sys,
+        is_line: false,
+        qualifiers: &[Word("MVS"), Word("HALT"), Word("EOD")],
+    },
+];

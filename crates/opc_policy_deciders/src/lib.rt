@@ -1,0 +1,9 @@
+//! Which profiles of OPERCMDS decide which resources: form by form, over all names.
+#![tactic(auto)]
+
+pub mod decided;
+pub mod form;
+pub mod kind;
+pub mod laws;
+mod met;
+mod near;

@@ -59,7 +59,7 @@ fn need_line(alloc: Global, entered: &Entered) -> Result<String, AllocError>
 }
 
 /// What a LOGON at the console of this name needs.
-fn logon_needs(alloc: Global, name: &ConsoleName) -> Result<String, AllocError>
+pub fn logon_needs(alloc: Global, name: &ConsoleName) -> Result<String, AllocError>
     ensures { IfOk result (λ text. string_bytes text ≡ logon_needs name.now) }
 {
     format!(in alloc; "NEEDS READ {name} CLASS CONSOLE\n")
@@ -102,7 +102,7 @@ fn class_note(alloc: Global, active: bool, class: Class) -> Result<String, Alloc
 }
 
 /// What decides: a profile, or none.
-fn decides_text(
+pub fn decides_text(
     alloc: Global,
     active: bool,
     class: Class,

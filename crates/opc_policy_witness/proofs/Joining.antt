@@ -175,7 +175,7 @@ onto_append : (c : ℕ) (xs ys : List (List ℕ)) → (xs ≡ [] → ⊥) → on
 onto_append c [] ys h = absurd (h refl)
 onto_append c (x ∷ xs) ys h = refl
 
-qualifiers_period : (a b : List ℕ) → qualifiers (a ++ 46 ∷ b) ≡ qualifiers a ++ qualifiers b
+pub qualifiers_period : (a b : List ℕ) → qualifiers (a ++ 46 ∷ b) ≡ qualifiers a ++ qualifiers b
 qualifiers_period [] b = refl
 qualifiers_period (c ∷ a) b =
     elim (c == 46) as (λ v. cond v ([] ∷ qualifiers (a ++ 46 ∷ b)) (onto_first c (qualifiers (a ++ 46 ∷ b))) ≡ cond v

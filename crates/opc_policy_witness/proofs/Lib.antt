@@ -1,5 +1,6 @@
 pub mod Between
 pub mod Covering
+pub mod Differing
 pub mod Joining
 pub mod Leading
 pub mod Names

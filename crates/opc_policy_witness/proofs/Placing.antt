@@ -28,6 +28,7 @@ use Rattle.std.proofs.Common.{
   drop,
   get_or,
   length,
+  map,
   append-nil,
   append_assoc,
   refl,
@@ -108,6 +109,18 @@ among_is pieces include exclude at inc exc s is all any =
           ap (λ b. b && not (fits_one exc s)) (all long)
           ∙ ap (λ b. list_all (covers_parts (filled pieces s)) include && not b) (any long)
 
+-- of what the included patterns do not cover
+pub nothing_wanted : {M : Type 0} (cells : M → List (Option ℕ)) (pieces : List FormPiece) (include exclude : List (List ℕ)) (masks : List M) (s : List ℕ)
+    → length masks ≡ 0 → (length s ≡ size pieces → fits_one (map cells masks) s ≡ list_all (covers_parts (filled pieces s)) include)
+    → is_found pieces include exclude s ≡ false
+nothing_wanted cells pieces include exclude (m ∷ masks) s none all = absurd (omega (arith, none))
+nothing_wanted cells pieces include exclude [] s none all = by (may_stand_all (places pieces) s) refl where
+  by : (b : Bool) → may_stand_all (places pieces) s ≡ b → (b && lies_between include exclude (filled pieces s)) ≡ false
+  by false h = refl
+  by true h =
+      let long : length s ≡ size pieces = stands_long (places pieces) s h ∙ places_long pieces in
+      ap (λ b. b && not (list_any (covers_parts (filled pieces s)) exclude)) (sym (all long))
+
 pub if_found : {E : Type 0} (result : Result (Option (List ℕ)) E) (P : List ℕ → Type 0) (x : List ℕ) → P x
     → IfOk result (λ found. found ≡ Some x) → IfOk result (λ found. IfSome found P)
 if_found (Ok None) P x h is = cc
@@ -131,6 +144,13 @@ pub have_text : (pieces : List FormPiece) (form : List FormQualifier) → length
     → room pieces + most_of_all form ≤ 40 → 1 ≤ length pieces + length form → HaveText pieces
 have_text [] form h fine short some = absurd (omega (arith, h, some))
 have_text (piece ∷ pieces) form h fine short some = record { some = λ e. cc; fine = fine; short = omega (arith, short) }
+
+pub no_form : (form : List FormQualifier) → length form < 1 → [] ≡ form
+no_form [] h = refl
+no_form (f ∷ form) h = absurd (omega (arith, h))
+
+pub from_max : (start a b w : ℕ) → start ≡ max a b → start ≤ w → a ≤ w
+from_max start a b w is h = omega (arith, is, h)
 
 pub rest_size : (form : List FormQualifier) (k : ℕ) → k + most_of_all form ≤ 40 → most_size (drop 1 form) ≤ 40
 rest_size [] k h = omega arith

@@ -321,14 +321,14 @@ false_of : (a : Bool) → (a ≡ true → ⊥) → a ≡ false
 false_of true h = absurd (h refl)
 false_of false h = refl
 
-cover_none : (ps : List (List ℕ)) (r : List ℕ) → not (list_any (covers_parts (qualifiers r)) ps) ≡ true
+pub cover_none : (ps : List (List ℕ)) (r : List ℕ) → not (list_any (covers_parts (qualifiers r)) ps) ≡ true
     → AllByRecursion (λ p. CoversText p r → ⊥) ps
 cover_none [] r h = tt
 cover_none (p ∷ ps) r h =
     let parts = none_of (covers_text p r) (list_any (covers_parts (qualifiers r)) ps) h in
     (λ k. not_both (covers_text p r) ((text_computes (covers_text p r) p r refl).1 k) parts.0, cover_none ps r parts.1)
 
-none_cover : (ps : List (List ℕ)) (r : List ℕ) → AllByRecursion (λ p. CoversText p r → ⊥) ps
+pub none_cover : (ps : List (List ℕ)) (r : List ℕ) → AllByRecursion (λ p. CoversText p r → ⊥) ps
     → not (list_any (covers_parts (qualifiers r)) ps) ≡ true
 none_cover [] r h = refl
 none_cover (p ∷ ps) r h =

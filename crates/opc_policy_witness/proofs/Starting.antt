@@ -84,7 +84,7 @@ no_masks ((Star ∷ q) ∷ p) (piece ∷ pieces) more h =
 
 -- ---- no resources
 
-not_covered : (p : List ℕ) (pieces more : List FormPiece) (s : List ℕ) → may_begin (map tokens (qualifiers p)) pieces ≡ false
+pub not_covered : (p : List ℕ) (pieces more : List FormPiece) (s : List ℕ) → may_begin (map tokens (qualifiers p)) pieces ≡ false
     → length s ≡ size (pieces ++ more) → covers_parts (filled (pieces ++ more) s) p ≡ false
 not_covered p pieces more s h long =
     covers_fits (map tokens (qualifiers p)) (pieces ++ more) s long

@@ -1,3 +1,4 @@
+pub mod Ends
 pub mod Forms
 pub mod Masks
 pub mod Pieces

@@ -2,6 +2,7 @@
 #![tactic(auto)]
 
 mod common;
+mod ends;
 mod expand;
 pub mod forms;
 mod masks;

@@ -1,5 +1,5 @@
 //! Whether a pattern may cover a resource that begins with some qualifiers.
-ghost use Rattle.std.specs.Prelude.{◌≡◌, is_some, map};
+ghost use Rattle.std.specs.Prelude.{◌≡◌, ℕ, IfOk, List, filter, is_some, map};
 ghost use Rattle.std.specs.List.{AllByRecursion, list_all};
 ghost use Rattle.std.specs.Option.{option_copied};
 ghost use Rattle.opc_names.specs.Names.{qualifiers};
@@ -11,6 +11,7 @@ use crate::expand::is_open_end;
 use crate::pieces::FormPiece;
 use crate::qualifier::{is_stars, matches, split_qualifier};
 use opc_names::name::Pattern;
+use std::alloc::{AllocError, Global};
 
 const STAR: u8 = b'*';
 
@@ -74,4 +75,20 @@ pub(crate) fn all_may_begin(patterns: &[Pattern], pieces: &[FormPiece]) -> bool
         [] => true,
         [pattern, rest @ ..] => one_may_begin(pattern, pieces) && all_may_begin(rest, pieces),
     }
+}
+
+/// Those of some patterns that may.
+pub(crate) fn those_may_begin(
+    alloc: Global,
+    patterns: &[Pattern],
+    pieces: &[FormPiece],
+) -> Result<Vec<Pattern>, AllocError>
+    ensures { IfOk result (λ kept. kept.items
+        ≡ filter (λ (p : List ℕ). may_begin (map tokens (qualifiers p)) pieces.now) patterns.now) }
+{
+    patterns
+        .iter()
+        .filter(|pattern| one_may_begin(pattern, pieces))
+        .copied()
+        .collect(alloc)
 }

@@ -17,11 +17,12 @@ use Rattle.std.proofs.Common.{
   Global,
   ℕ,
 }
+use Rattle.std.proofs.lemmas.Bool.Decides.{nat_tests}
 use Rattle.std.proofs.lemmas.List.{length-take-le}
 use Rattle.opc_policy_witness.specs.Pieces.{filled, size}
 use Rattle.opc_policy_witness.specs.Witness.{LiesIn, joined}
 use Rattle.opc_policy_witness.proofs.Joining.{places_long, size_room}
-use Rattle.opc_policy_witness.proofs.Placing.{among_is, if_found}
+use Rattle.opc_policy_witness.proofs.Placing.{among_is, if_found, nothing_wanted}
 use Rattle.opc_policy_witness.proofs.Products.{fits_vec}
 use Rattle.opc_policy_witness.proofs.witness.among.Goals as goal
 
@@ -79,3 +80,8 @@ returns-clause-none c = λ e s.
     (λ h. ap (λ l. fits_vec l s) c.as_slice.ensures.value ∙ c.in_ok-wanted.ensures s h)
     (λ h. ap (λ l. fits_vec l s) c.as_slice-2.ensures.value ∙ c.in_ok-unwanted.ensures s h))
     ∙ c.find_any.ensures.none was s
+
+pub returns-then-is_empty-clause-none : goal.returns-then-is_empty-clause-none
+returns-then-is_empty-clause-none c = λ e s.
+    nothing_wanted (λ (m : Vec (Option ℕ) Global). m.items) c.args.pieces.now c.args.include.now c.args.exclude.now c.in_ok-wanted.wanted.items s
+    (grind (arith, nat_tests, c.is_empty.ensures, c.if-is_empty.true)) (c.in_ok-wanted.ensures s)

@@ -1,6 +1,6 @@
 -- A witness lies between patterns.
 use Rattle.std.proofs.Common.{◌≡◌, ◌≤◌, ◌∙◌, ap, sym, refl, ℕ, Bool, true, false, ◌&&◌, ◌||◌, List, [], ◌∷◌, Option, Some, None, Result, Ok, Err, length, map}
-use Rattle.std.specs.Prelude.{IfOk, IfSome, is_some}
+use Rattle.std.specs.Prelude.{IfOk, IfSome}
 use Rattle.std.specs.List.{AllByRecursion, list_all, list_any}
 use Rattle.opc_names.specs.Names.{qualifiers}
 use Rattle.opc_names.specs.Patterns.{CoversText, covers_text}
@@ -12,7 +12,6 @@ use Rattle.opc_policy_witness.specs.Witness.{IsWitness}
 use Rattle.opc_policy_deciders.specs.Between.{IsBetween}
 use Rattle.opc_policy_deciders.specs.Decided.{IsShortest}
 use Rattle.opc_policy_deciders.specs.Forms.{AreOf, asked, shape}
-use Rattle.opc_policy_deciders.specs.Near.{CoversNoneOf}
 use Rattle.opc_policy_deciders.specs.declared.form.ResourceForm.{ResourceForm}
 
 to_shape : (form : List FormQualifier) (r : List (List ℕ)) → HaveForm form r → AreOf (map shape form) r
@@ -105,10 +104,3 @@ found_so form include exclude (Ok None) found shortest none = λ r b. none refl 
 found_so form include exclude (Ok (Some r)) found shortest none =
     (between form include exclude r found, λ other b. shortest other (witness_of form include exclude other b))
 found_so form include exclude (Err fault) found shortest none = tt
-
-pub covers_none : (form : ResourceForm) (pattern : List ℕ) (found : Option (List ℕ))
-    → (found ≡ None → (resource : List ℕ) → IsWitness form.qualifiers.now (pattern ∷ []) [] resource → ⊥) → is_some found ≡ false
-    → CoversNoneOf (asked form) pattern
-covers_none form pattern None none is r of_form covers =
-    none refl r (record { of_form = of_shape form.qualifiers.now (qualifiers r) of_form; covered = (covers, tt); uncovered = tt })
-covers_none form pattern (Some found) none is r of_form covers = cc

@@ -1,7 +1,6 @@
 -- Patterns that cover one resource have heads of which one begins with the other.
-use Rattle.std.proofs.Common.{◌≡◌, inl, inr, ◌≤◌, ◌<◌, ◌+◌, ◌∙◌, ap, sym, refl, subst, ℕ, Bool, true, false, ◌||◌, List, [], ◌∷◌, ◌++◌, Option, Some, None, Result, Ok, Err, All, get_or, length, take, arith}
+use Rattle.std.proofs.Common.{◌≡◌, inl, inr, ◌≤◌, ◌<◌, ◌+◌, ◌∙◌, ap, sym, refl, subst, ℕ, Bool, true, false, ◌||◌, List, [], ◌∷◌, ◌++◌, Option, All, get_or, length, take, arith}
 use Rattle.std.specs.List.{list_any}
-use Rattle.std.specs.Prelude.{IfOk, is_some}
 use Rattle.std.proofs.lemmas.List.{take_more}
 use Rattle.opc_names.specs.Names.{IsPattern}
 use Rattle.opc_names.specs.Order.{head}
@@ -10,11 +9,11 @@ use Rattle.opc_names.proofs.Computed.{text_computes}
 use Rattle.opc_names.proofs.Heads.{heads_are_prefixes}
 use Rattle.std.proofs.lemmas.Bool.{cases_lt}
 use Rattle.opc_policy_deciders.specs.Between.{IsBetween}
-use Rattle.opc_policy_deciders.specs.Decided.{AddsShortest, AreShortest, IsShortest}
+use Rattle.opc_policy_deciders.specs.Decided.{AddsShortest, AreShortest}
 use Rattle.opc_policy_deciders.specs.Forms.{AskedForm}
-use Rattle.opc_policy_deciders.specs.Near.{AreMet, AreNear, CoverAsMany, CoversNoneOf, NoneInCommon}
+use Rattle.opc_policy_deciders.specs.Near.{AreNear, CoverAsMany, NoneInCommon}
 use Rattle.opc_policy_deciders.proofs.Between.{both_true}
-use Rattle.opc_policy_deciders.proofs.Listing.{all_added, all_same, shortest_same}
+use Rattle.opc_policy_deciders.proofs.Listing.{all_added, all_same}
 
 -- of two beginnings of a text the longer one begins with the other
 begins_so : (g h x y : List ℕ) → g ++ x ≡ h ++ y → length g ≤ length h → (rest : List ℕ) × (h ≡ g ++ rest)
@@ -69,9 +68,6 @@ pub far_left_out : (p q : List ℕ) (list : List (List ℕ)) → NoneInCommon p 
 far_left_out p q list none r covers =
     without q r list (uncovered q r (none r ((text_computes (covers_text p r) p r refl).0 covers)) (covers_text q r) refl)
 
-pub unmet_left_out : (form : AskedForm) (q : List ℕ) (list : List (List ℕ)) → CoversNoneOf form q → AreMet form list (list ++ q ∷ [])
-unmet_left_out form q list none r of_form = without q r list (uncovered q r (none r of_form) (covers_text q r) refl)
-
 pub kept : (Holds : List ℕ → Type 0) (q : List ℕ) (old new : List (List ℕ)) → new ≡ old ++ q ∷ [] → CoverAsMany Holds new (old ++ q ∷ [])
 kept Holds q old new is r holds = ap (list_any (λ (x : List ℕ). covers_text x r)) is
 
@@ -111,18 +107,3 @@ pub near_is_enough : (p : List ℕ) (near excluded before : List (List ℕ)) (fo
 near_is_enough p near excluded before forms old new as_many is none adds =
     near_so p near before forms new as_many
     (subst (λ (ps : List (List ℕ)). AreShortest (IsBetween (p ∷ []) ps) forms new) is (all_added (IsBetween (p ∷ []) excluded) forms old new none adds))
-
-pub met_are_enough : {E : Type 0} (form : AskedForm) (include met exclude : List (List ℕ)) (result : Result (Option (List ℕ)) E)
-    → AreMet form met exclude → IfOk result (IsShortest (IsBetween include met form)) → IfOk result (IsShortest (IsBetween include exclude form))
-met_are_enough form include met exclude (Ok found) as_many shortest =
-    shortest_same (IsBetween include met form) (IsBetween include exclude form) (λ r. (
-      λ b. record { of_form = b.of_form; covered = b.covered; uncovered = sym (as_many r b.of_form) ∙ b.uncovered },
-      λ b. record { of_form = b.of_form; covered = b.covered; uncovered = as_many r b.of_form ∙ b.uncovered },
-    )) found shortest
-met_are_enough form include met exclude (Err fault) as_many shortest = tt
-
--- what the included patterns do not cover is not between
-pub none_included : (form : AskedForm) (include exclude : List (List ℕ)) (found : Option (List ℕ)) → is_some found ≡ false
-    → IsShortest (IsBetween include [] form) found → IsShortest (IsBetween include exclude form) None
-none_included form include exclude None is none = λ r b. none r (record { of_form = b.of_form; covered = b.covered; uncovered = refl })
-none_included form include exclude (Some r) is some = cc

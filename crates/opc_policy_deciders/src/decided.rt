@@ -16,7 +16,6 @@ ghost use Rattle.opc_policy_deciders.specs.Decided.{
 ghost use Rattle.opc_policy_deciders.specs.Forms.{AreForms, asked, forms};
 
 use crate::form::{FORMS, ResourceForm};
-use crate::met::met_by;
 use crate::near::near;
 use opc_names::class::Class;
 use opc_names::name::{Pattern, Resource};
@@ -67,24 +66,6 @@ fn between(
     witness(alloc, form.qualifiers, include, exclude)
 }
 
-/// The same. Most patterns cover nothing of most forms, and then nothing is searched.
-fn between_met(
-    alloc: Global,
-    form: &ResourceForm,
-    include: &[Pattern],
-    exclude: &[Pattern],
-) -> Result<Option<Resource>, AllocError>
-    requires { IsForm form.now.qualifiers.now }
-    ensures { IfOk result (IsShortest (IsBetween include.now exclude.now (asked form.now))) }
-{
-    let covered = between(alloc, form, include, &[])?;
-    if covered.is_none() {
-        return Ok(None);
-    }
-    let met = met_by(alloc, form, exclude)?;
-    between(alloc, form, include, met.as_slice())
-}
-
 /// The same for each of some forms.
 fn push_between(
     alloc: Global,
@@ -100,7 +81,7 @@ fn push_between(
     let [form, rest @ ..] = forms else {
         return Ok(());
     };
-    let found = between_met(alloc, form, include, exclude)?;
+    let found = between(alloc, form, include, exclude)?;
     list.push(found)?;
     push_between(alloc, list, rest, include, exclude)
 }

@@ -5,5 +5,4 @@ pub mod decided;
 pub mod form;
 pub mod kind;
 pub mod laws;
-mod met;
 mod near;

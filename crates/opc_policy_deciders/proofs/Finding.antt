@@ -24,7 +24,9 @@ use Rattle.opc_policy_members.specs.Taken.{is_active}
 use Rattle.opc_policy_deciders.specs.Between.{IsBetween}
 use Rattle.opc_policy_deciders.specs.Decided.{ArePatternsOf, AreShortest, IsDecided, deciding_pattern, pattern_of, patterns_of}
 use Rattle.opc_policy_deciders.specs.Forms.{AskedForm, forms}
+use Rattle.opc_policy_deciders.specs.Near.{AreNear, ComeBefore, IsEarlier as EarlierPattern}
 use Rattle.opc_policy_deciders.proofs.Between.{both_true, none_true}
+use Rattle.opc_policy_deciders.proofs.Covering.{near_so}
 use Rattle.opc_policy_deciders.proofs.Listing.{all_same}
 
 -- ---- no pattern stands twice
@@ -40,14 +42,24 @@ listed profiles = map pattern_of (of_class Opercmds profiles)
 abbrev IsEarlier : Profile → Profile → Type 0
 IsEarlier p q = p.class ≡ q.class → is_before p q ≡ true
 
-all_tail : (P : Profile → Type 0) (x : Profile) (xs : List Profile) → All P (x ∷ xs) → All P xs
+all_tail : {X : Type 0} (P : X → Type 0) (x : X) (xs : List X) → All P (x ∷ xs) → All P xs
 all_tail P x xs h k d less = h (suc k) d (omega arith)
 
-pairs_tail : (R : Profile → Profile → Type 0) (x : Profile) (xs : List Profile) → AllPairs R (x ∷ xs) → AllPairs R xs
+pairs_tail : {X : Type 0} (R : X → X → Type 0) (x : X) (xs : List X) → AllPairs R (x ∷ xs) → AllPairs R xs
 pairs_tail R x xs h i j d first second = h (suc i) (suc j) d (omega arith) (omega arith)
 
-pairs_head : (R : Profile → Profile → Type 0) (x : Profile) (xs : List Profile) → AllPairs R (x ∷ xs) → All (R x) xs
+pairs_head : {X : Type 0} (R : X → X → Type 0) (x : X) (xs : List X) → AllPairs R (x ∷ xs) → All (R x) xs
 pairs_head R x xs h k d less = h 0 (suc k) d (omega arith) (omega arith)
+
+all_cons : {X : Type 0} (P : X → Type 0) (x : X) (xs : List X) → P x → All P xs → All P (x ∷ xs)
+all_cons P x xs first rest zero d less = first
+all_cons P x xs first rest (suc k) d less = rest k d (omega (arith, less))
+
+pairs_cons : {X : Type 0} (R : X → X → Type 0) (x : X) (xs : List X) → All (R x) xs → AllPairs R xs → AllPairs R (x ∷ xs)
+pairs_cons R x xs first rest zero zero d less high = absurd (omega (arith, less))
+pairs_cons R x xs first rest zero (suc j) d less high = first j d (omega (arith, high))
+pairs_cons R x xs first rest (suc i) zero d less high = absurd (omega (arith, less))
+pairs_cons R x xs first rest (suc i) (suc j) d less high = rest i j d (omega (arith, less)) (omega (arith, high))
 
 is_opercmds : (c : Class) → same_class c Opercmds ≡ true → c ≡ Opercmds
 is_opercmds Console e = cc
@@ -88,6 +100,35 @@ apart (p ∷ ps) h = go (same_class p.class Opercmds) refl (apart ps (pairs_tail
         → Apart (map pattern_of (cond b (p ∷ of_class Opercmds ps) (of_class Opercmds ps)))
     go true is rest = (never_again p ps is (pairs_head IsEarlier p ps h), rest)
     go false is rest = rest
+
+-- ---- the patterns come in the order of the search
+
+earlier_all : (p : Profile) (ps : List Profile) → same_class p.class Opercmds ≡ true → All (IsEarlier p) ps
+    → All (EarlierPattern p.pattern) (listed ps)
+earlier_all p [] of earlier = λ k d less. absurd (omega (arith, less))
+earlier_all p (q ∷ qs) of earlier = go (same_class q.class Opercmds) refl (earlier_all p qs of (all_tail (IsEarlier p) q qs earlier))
+  where
+    go : (b : Bool) → same_class q.class Opercmds ≡ b → All (EarlierPattern p.pattern) (listed qs)
+        → All (EarlierPattern p.pattern) (map pattern_of (cond b (q ∷ of_class Opercmds qs) (of_class Opercmds qs)))
+    go true is rest =
+        all_cons (EarlierPattern p.pattern) q.pattern (listed qs) (earlier 0 q (omega arith) (is_opercmds p.class of ∙ sym (is_opercmds q.class is))) rest
+    go false is rest = rest
+
+ordered : (profiles : List Profile) → AreMostSpecificFirst profiles → AllPairs EarlierPattern (listed profiles)
+ordered [] h = λ i j d less high. absurd (omega (arith, high))
+ordered (p ∷ ps) h = go (same_class p.class Opercmds) refl (ordered ps (pairs_tail IsEarlier p ps h))
+  where
+    go : (b : Bool) → same_class p.class Opercmds ≡ b → AllPairs EarlierPattern (listed ps)
+        → AllPairs EarlierPattern (map pattern_of (cond b (p ∷ of_class Opercmds ps) (of_class Opercmds ps)))
+    go true is rest = pairs_cons EarlierPattern p.pattern (listed ps) (earlier_all p ps is (pairs_head IsEarlier p ps h)) rest
+    go false is rest = rest
+
+pub all_ordered : (p : Policy) → AreMostSpecificFirst p.profiles → AllPairs EarlierPattern (patterns_of p)
+all_ordered p h = go (is_active p.active Opercmds)
+  where
+    go : (b : Bool) → AllPairs EarlierPattern (map pattern_of (if b then of_class Opercmds p.profiles else []))
+    go true = ordered p.profiles h
+    go false = λ i j d less high. absurd (omega (arith, high))
 
 -- ---- the first pattern that covers
 
@@ -163,7 +204,7 @@ module _ (test : List ℕ → Bool) where
           let more = later found in
           (more.0, ap (λ b. b || list_any test (take at ps)) is ∙ more.1)
 
-decided_between : (p : Policy) (patterns own before : List (List ℕ)) (at : ℕ) → ArePatternsOf p patterns
+pub decided_between : (p : Policy) (patterns own before : List (List ℕ)) (at : ℕ) → ArePatternsOf p patterns
     → own ≡ take 1 (drop at patterns) → before ≡ take at patterns → (form : AskedForm) (r : List ℕ)
     → IsBetween own before form r ↔ IsDecided p (slice_get patterns at) form r
 decided_between p patterns own before at are is_own is_before form r = (
@@ -200,6 +241,13 @@ pub then_ok : {T E : Type 0} (result : Result T E) (P Q : T → Type 0) → IfOk
 then_ok (Ok x) P Q h f = f x h
 then_ok (Err e) P Q h f = tt
 
+pub near_is_enough : {V E : Type 0} (items : V → List (Option (List ℕ))) (p : List ℕ) (near before : List (List ℕ)) (result : Result V E)
+    → AreNear p near before → IfOk result (λ v. AreShortest (IsBetween (p ∷ []) near) forms (items v))
+    → IfOk result (λ v. AreShortest (IsBetween (p ∷ []) before) forms (items v))
+near_is_enough items p near before result as_many found =
+    then_ok result (λ v. AreShortest (IsBetween (p ∷ []) near) forms (items v)) (λ v. AreShortest (IsBetween (p ∷ []) before) forms (items v)) found
+    (λ v. near_so p near before forms (items v) as_many)
+
 all_later : (P : List ℕ → Type 0) (x : List ℕ) (xs : List (List ℕ)) → All P (x ∷ xs) → All P xs
 all_later P x xs h k d less = h (suc k) d (omega (arith, less))
 
@@ -220,6 +268,28 @@ pub first_left : (P : List ℕ → Type 0) (xs rest : List (List ℕ)) (at : ℕ
     → 1 ≤ length rest → x ≡ get_or rest 0 x → P x
 first_left P xs rest at x all is_rest some is =
     subst P (sym is) (subst (λ l. All P l) (sym is_rest) (left P xs at all) 0 x (omega (arith, some)))
+
+those_before : (ps : List (List ℕ)) (at : ℕ) (x : List ℕ) → AllPairs EarlierPattern ps → 1 ≤ length (drop at ps)
+    → x ≡ get_or (drop at ps) 0 x → ComeBefore (take at ps) x
+those_before [] zero x up some is = absurd (omega (arith, some))
+those_before [] (suc at) x up some is = absurd (omega (arith, some))
+those_before (y ∷ ps) zero x up some is =
+    record { in_order = λ i j d less high. absurd (omega (arith, high)); before = λ k d less. absurd (omega (arith, less)) }
+those_before (y ∷ ps) (suc at) x up some is =
+    let rest = those_before ps at x (pairs_tail EarlierPattern y ps up) some is in
+    let first : All (EarlierPattern y) ps = pairs_head EarlierPattern y ps up in
+    record {
+      in_order = pairs_cons EarlierPattern y (take at ps) (all_before (EarlierPattern y) ps at first) rest.in_order;
+      before = all_cons (λ q. EarlierPattern q x) y (take at ps) (first_left (EarlierPattern y) ps (drop at ps) at x first refl some is) rest.before;
+    }
+
+-- the pattern at a place, and those before it
+pub come_before : (p : Policy) (patterns before rest : List (List ℕ)) (at : ℕ) (x : List ℕ) → ArePatternsOf p patterns
+    → before ≡ take at patterns → rest ≡ drop at patterns → 1 ≤ length rest → x ≡ get_or rest 0 x → ComeBefore before x
+come_before p patterns before rest at x are is_before is_rest some is =
+    subst (λ l. ComeBefore l x) (sym is_before)
+    (those_before patterns at x (subst (λ l. AllPairs EarlierPattern l) (sym are.all) (all_ordered p are.in_order))
+    (subst (λ l. 1 ≤ length l) is_rest some) (is ∙ ap (λ l. get_or l 0 x) is_rest))
 
 own_first : (rest : List (List ℕ)) (x : List ℕ) → 1 ≤ length rest → x ≡ get_or rest 0 x → x ∷ [] ≡ take 1 rest
 own_first [] x some is = absurd (omega (arith, some))

@@ -14,6 +14,7 @@ ghost use Rattle.opc_policy_deciders.specs.Decided.{
   pattern_of,
 };
 ghost use Rattle.opc_policy_deciders.specs.Forms.{AreForms, asked, forms};
+ghost use Rattle.opc_policy_deciders.specs.Near.{ComeBefore};
 
 use crate::form::{FORMS, ResourceForm};
 use crate::near::near;
@@ -86,6 +87,19 @@ fn push_between(
     push_between(alloc, list, rest, include, exclude)
 }
 
+/// For each form, the shortest resource that all patterns of one list cover and none of another.
+pub(crate) fn between_all(
+    alloc: Global,
+    include: &[Pattern],
+    exclude: &[Pattern],
+) -> Result<Vec<Option<Resource>>, AllocError>
+    ensures { IfOk result (λ list. AreShortest (IsBetween include.now exclude.now) forms list.items) }
+{
+    let mut list = Vec::new(alloc);
+    push_between(alloc, &mut list, &FORMS, include, exclude)?;
+    Ok(list)
+}
+
 /// For each form, the shortest resource that a pattern covers and none of those before it.
 fn decided_by(
     alloc: Global,
@@ -94,22 +108,11 @@ fn decided_by(
 ) -> Result<Vec<Option<Resource>>, AllocError>
     requires pattern { IsPattern pattern.now }
     requires before { All IsPattern before.now }
+    requires order { ComeBefore before.now pattern.now }
     ensures { IfOk result (λ list. AreShortest (IsBetween (pattern.now ∷ []) before.now) forms list.items) }
 {
     let own = [*pattern];
-    let near = near(alloc, pattern, before)?;
-    let mut list = Vec::new(alloc);
-    push_between(alloc, &mut list, &FORMS, &own, near.as_slice())?;
-    Ok(list)
-}
-
-/// For each form, the shortest resource that none of these patterns covers.
-fn decided_by_none(alloc: Global, patterns: &[Pattern]) -> Result<Vec<Option<Resource>>, AllocError>
-    ensures { IfOk result (λ list. AreShortest (IsBetween [] patterns.now) forms list.items) }
-{
-    let mut list = Vec::new(alloc);
-    push_between(alloc, &mut list, &FORMS, &[], patterns)?;
-    Ok(list)
+    between_all(alloc, &own, near(pattern, before))
 }
 
 /// For each form, the shortest resource that is decided by the profile of the pattern at this place of all; at their
@@ -126,7 +129,7 @@ pub fn decided_at(
 {
     let (before, rest) = patterns.split_at(at);
     let [pattern, ..] = rest else {
-        return decided_by_none(alloc, before);
+        return between_all(alloc, &[], before);
     };
     decided_by(alloc, pattern, before)
 }

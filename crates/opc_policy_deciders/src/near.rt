@@ -1,13 +1,15 @@
 //! Of the patterns that come before one, those that may cover what it covers.
-ghost use Rattle.std.specs.Prelude.{◌≡◌, ◌∷◌, ◌++◌, All, IfOk, OnOk, [], false};
+ghost use Rattle.std.specs.Prelude.{◌≡◌, All, false};
+ghost use Rattle.std.specs.Cmp.Lexicographic.{slice_cmp};
+ghost use Rattle.std.specs.Ordering.{is_lt, nat_cmp};
 ghost use Rattle.opc_names.specs.Names.{IsPattern};
-ghost use Rattle.opc_policy_deciders.specs.Near.{AreNear, NoneInCommon};
+ghost use Rattle.opc_names.specs.Order.{sort_key};
+ghost use Rattle.opc_policy_deciders.specs.Near.{AreNear, ComeBefore, NoneInCommon};
 
 use opc_names::name::Pattern;
-use std::alloc::{AllocError, Global};
 
 /// Whether two patterns may cover one resource: it begins with the heads of both, so one head begins with the other.
-fn may_meet(pattern: &Pattern, other: &Pattern) -> bool
+pub(crate) fn may_meet(pattern: &Pattern, other: &Pattern) -> bool
     requires pattern { IsPattern pattern.now }
     requires other { IsPattern other.now }
     ensures { result ≡ false → NoneInCommon pattern.now other.now }
@@ -19,32 +21,22 @@ fn may_meet(pattern: &Pattern, other: &Pattern) -> bool
     other_head.starts_with(head)
 }
 
-/// Adds a pattern, if it may cover what another one covers.
-fn push_near(list: &mut Vec<Pattern>, pattern: &Pattern, other: &Pattern) -> Result<(), AllocError>
-    requires pattern { IsPattern pattern.now }
-    requires other { IsPattern other.now }
-    ensures { OnOk result (AreNear pattern.now list.new.items (list.old.items ++ other.now ∷ [])) }
+fn is_below(pattern: &Pattern, head: &[u8]) -> bool
+    ensures { result ≡ is_lt (slice_cmp nat_cmp (sort_key pattern.now) head.now) }
 {
-    if !may_meet(pattern, other) {
-        return Ok(());
-    }
-    list.push(*other)?;
-    Ok(())
+    let key = pattern.sort_key();
+    key.as_slice().cmp(head).is_lt()
 }
 
-/// Those of some patterns that may cover what a pattern covers.
-pub(crate) fn near(
-    alloc: Global,
-    pattern: &Pattern,
-    before: &[Pattern],
-) -> Result<Vec<Pattern>, AllocError>
+/// Those of the patterns before one, in order, that may cover what it covers: their sort keys are not below its head,
+/// with which all begins that it covers.
+pub(crate) fn near<'a>(pattern: &Pattern, before: &'a [Pattern]) -> &'a [Pattern]
     requires pattern { IsPattern pattern.now }
     requires before { All IsPattern before.now }
-    ensures { IfOk result (λ list. AreNear pattern.now list.items before.now) }
+    requires order { ComeBefore before.now pattern.now }
+    ensures { AreNear pattern.now result.now before.now }
 {
-    let mut list = Vec::new(alloc);
-    for other in before {
-        push_near(&mut list, pattern, other)?;
-    }
-    Ok(list)
+    let head = pattern.head().as_bytes();
+    let from = before.partition_point(|other| is_below(other, head));
+    &before[from..]
 }

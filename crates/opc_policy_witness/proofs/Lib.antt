@@ -9,3 +9,4 @@ pub mod Products
 pub mod Sizes
 pub mod Spreading
 pub mod Starting
+pub mod SortKeys

@@ -1,14 +1,19 @@
-use Rattle.std.proofs.Common.{arith}
-use Rattle.opc_names.specs.Names.{IsPattern}
-use Rattle.opc_policy_deciders.proofs.Covering.{item_valid, one_more}
+use Rattle.std.proofs.Common.{drop, refl, rules}
+use Rattle.std.proofs.lemmas.List.{take_rest}
+use Rattle.std.proofs.lemmas.List.Sorted.{IsPartitionPoint-from_clause}
+use Rattle.std.specs.Cmp.Lexicographic.{slice_cmp}
+use Rattle.std.specs.Ordering.{is_lt, nat_cmp}
+use Rattle.opc_names.specs.Order.{head, sort_key}
+use Rattle.opc_names.specs.Patterns.{tokens}
+use Rattle.opc_policy_deciders.proofs.Parting.{are_near, parted}
 use Rattle.opc_policy_deciders.proofs.near.near.Goals as goal
 
-pub push_near-requires-clause-other : goal.push_near-requires-clause-other
-push_near-requires-clause-other c =
-    item_valid IsPattern c.args.before.now c.loop-other.other-index c.other-item.result c.requires.before (omega arith) c.other-item.is
-
-pub loop-other-preserved : goal.loop-other-preserved
-loop-other-preserved c =
-    one_more _ c.args.before.now c.loop-other.other-index c.other-item.result c.loop-other.list.items
-    c.push_near.new.list.items (omega arith) c.other-item.is c.loop-other.invariant
-    c.in_ok-push_near.ensures
+pub returns : goal.returns
+returns c =
+    rw take_rest (
+    are_near c.args.pattern.now c.args.before.now (drop c.partition_point-from.result c.args.before.now) c.partition_point-from.result c.requires.pattern c.requires.before c.requires.order
+    (IsPartitionPoint-from_clause (λ q. is_lt (slice_cmp nat_cmp (sort_key q) (head (tokens c.args.pattern.now)))) _ _
+    c.partition_point-from.ensures.partitioned (parted (head (tokens c.args.pattern.now)) c.args.before.now c.requires.order.in_order)
+    (λ a r f called. search rules))
+    refl
+    )

@@ -4,3 +4,4 @@ pub mod Forms
 pub mod Kinds
 pub mod Laws
 pub mod Near
+pub mod Pairs

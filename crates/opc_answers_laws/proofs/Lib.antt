@@ -11,3 +11,4 @@ mod Digits
 mod Entering
 mod Exported
 mod WhoCounts
+mod Formed

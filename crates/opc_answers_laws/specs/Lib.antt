@@ -7,3 +7,4 @@ pub mod DigestLaws
 pub mod EnteringLaws
 pub mod ExportLaws
 pub mod CountingLaws
+pub mod FormLaws

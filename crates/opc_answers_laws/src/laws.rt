@@ -13,6 +13,12 @@ ghost use Rattle.opc_answers_laws.specs.ReachLaws.{
   DecidersOfCommandsAreMet,
   DecidersOfLinesAreMet,
 };
+ghost use Rattle.opc_answers_laws.specs.FormLaws.{
+  ConsoleLinesHaveForms,
+  FormsAreAskedAbout,
+  NeedsHaveForms,
+  UnitLinesHaveForms,
+};
 ghost use Rattle.opc_answers_laws.specs.AccountLaws.{
   LoadedRowsAreShown,
   RowsAreShownInOrder,
@@ -68,6 +74,15 @@ pub fn profiles_that_never_decide()
 pub fn questions_count()
     ensures commands { CommandsAskSo }
     ensures lines { LinesAskSo }
+{}
+
+/// The forms by which `may`, `diff` and `sheet` ask are those of the command table: what a command needs has a form of
+/// its level and group, what showing a line needs has one of lines, and the gate asks about each resource of a form.
+pub fn forms_are_of_the_table()
+    ensures needs { NeedsHaveForms }
+    ensures units { UnitLinesHaveForms }
+    ensures consoles { ConsoleLinesHaveForms }
+    ensures asked { FormsAreAskedAbout }
 {}
 
 /// A profile whose pattern is not met decides nothing.

@@ -185,10 +185,10 @@ shown_console : (name : List ℕ) → name_fault console_rule name ≡ None → 
 shown_console name h = inr (inr (name, h, refl))
 
 -- what has one of the forms
-abbrev HasAsked : List (List ℕ) → Type 0
+abbrev pub HasAsked : List (List ℕ) → Type 0
 HasAsked r = (resource : List ℕ) × IsAsked resource × (qualifiers resource ≡ r)
 
-abbrev AreAsked : List Qualifier → Type 0
+abbrev pub AreAsked : List Qualifier → Type 0
 AreAsked fs = (r : List (List ℕ)) → AreOf fs r → HasAsked r
 
 fixed_row : (words : List ℕ) → IsAsked words → AreAsked (form words [])
@@ -208,10 +208,10 @@ task_row words asked r are =
     let k = form_made words (AnyUnit ∷ AnyUnit ∷ []) r (tt, (tt, tt)) are in
     (k.0, subst (λ x. IsAsked x) (sym k.1.2.2) (asked k.1.0 k.1.2.0 k.1.1 k.1.2.1), k.2)
 
-fixed_asked : AllByRecursion AreAsked fixed_forms
+pub fixed_asked : AllByRecursion AreAsked fixed_forms
 fixed_asked = (fixed_row (codes "MVS.DISPLAY.JOB") units, (fixed_row (codes "MVS.DISPLAY.U") devices, (fixed_row (codes "MVS.DISPLAY.CN") consoles, (fixed_row (codes "MVS.DISPLAY.R") replies, (fixed_row (codes "MVS.REPLY") reply, (fixed_row (codes "MVS.VARY.DEV") device, (fixed_row (codes "MVS.MOUNT") mount, (fixed_row (codes "MVS.UNLOAD") unload, (fixed_row (codes "MVS.SWAP") swap, (fixed_row (codes "MVS.VARY.CN") console, (fixed_row (codes "MVS.VARYAUTH.CN") auth, (fixed_row (codes "MVS.RESET.CN") reset, (fixed_row (codes "MVS.SEND") send, (fixed_row (codes "MVS.LOG") log, (fixed_row (codes "MVS.MONITOR") monitor, (fixed_row (codes "MVS.STOPMN") stop_monitor, (fixed_row (codes "MVS.HALT.EOD") halt, tt)))))))))))))))))
 
-named_asked : AllByRecursion AreAsked named_forms
+pub named_asked : AllByRecursion AreAsked named_forms
 named_asked = (named_row (codes "MVS.DISPLAY.JOB") AnyUnit tt shown_unit, (named_row (codes "MVS.DISPLAY.CN") AnyConsole tt shown_console, (named_row (codes "MVS.CANCEL.JOB") AnyUnit tt cancel_job, (named_row (codes "MVS.CANCEL.TSU") AnyUnit tt cancel_tsu, (named_row (codes "MVS.FORCE.JOB") AnyUnit tt force_job, (named_row (codes "MVS.FORCE.TSU") AnyUnit tt force_tsu, (named_row (codes "MVS.STOP.JOB") AnyUnit tt stop_job, (named_row (codes "MVS.MODIFY.JOB") AnyUnit tt modify_job, (task_row (codes "MVS.START.STC") start_stc, (task_row (codes "MVS.CANCEL.STC") cancel_stc, (task_row (codes "MVS.FORCE.STC") force_stc, (task_row (codes "MVS.STOP.STC") stop_stc, (task_row (codes "MVS.MODIFY.STC") modify_stc, tt)))))))))))))
 
 -- what decides a resource of a form decides one that is asked about

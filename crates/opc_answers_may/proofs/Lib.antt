@@ -1,0 +1,10 @@
+pub mod Alike
+pub mod AsWho
+pub mod Changing
+pub mod Heads
+pub mod Lines
+pub mod NoFloats
+pub mod Placing
+pub mod Rows
+pub mod Shown
+pub mod Standing

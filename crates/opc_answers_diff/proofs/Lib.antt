@@ -1,0 +1,14 @@
+mod AsExplained
+mod ById
+mod Differing
+mod Elsewhere
+mod Exactly
+mod Finding
+mod Floats
+mod Gained
+mod Named
+mod Rows
+mod Same
+mod SameRows
+mod Sectioned
+mod Skipped

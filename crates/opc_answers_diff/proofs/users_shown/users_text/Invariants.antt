@@ -1,0 +1,8 @@
+use Rattle.std.proofs.Common.{◌≡◌, take}
+use Rattle.std.specs.Prelude.{string_bytes}
+use Rattle.std.specs.List.{flat_map}
+use Rattle.opc_answers_diff.specs.UsersShown.{change_text}
+use Rattle.opc_answers_diff.proofs.users_shown.users_text.Given as goal
+
+abbrev pub invariant-loop-change : goal.invariant-loop-change
+invariant-loop-change l = string_bytes l.text ≡ flat_map change_text (take l.change-index l.changes)

@@ -1,0 +1,13 @@
+pub mod Consoles
+pub mod ConsolesShown
+pub mod DecidesShown
+pub mod Gains
+pub mod Laws
+pub mod Logons
+pub mod Members
+pub mod RowChanges
+pub mod RowTexts
+pub mod Sections
+pub mod Unchanged
+pub mod UsersShown
+pub mod Verdicts

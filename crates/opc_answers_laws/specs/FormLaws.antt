@@ -1,4 +1,4 @@
--- The forms by which `may`, `diff` and `sheet` ask are those of the command table.
+-- The forms of opc_policy_deciders are those of the command table.
 use Rattle.std.specs.Prelude.{◌≡◌, ℕ, Bool, true, false, List, Some}
 use Rattle.std.specs.List.{AllByRecursion, slice_get}
 use Rattle.opc_names.specs.declared.level.Level.TheVariants.{Read}

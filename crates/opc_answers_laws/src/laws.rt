@@ -76,8 +76,8 @@ pub fn questions_count()
     ensures lines { LinesAskSo }
 {}
 
-/// The forms by which `may`, `diff` and `sheet` ask are those of the command table: what a command needs has a form of
-/// its level and group, what showing a line needs has one of lines, and the gate asks about each resource of a form.
+/// The forms of `opc_policy_deciders` are those of the command table: what a command needs has a form of its level and
+/// group, what showing a line needs has one of lines, and the gate asks about each resource of a form.
 pub fn forms_are_of_the_table()
     ensures needs { NeedsHaveForms }
     ensures units { UnitLinesHaveForms }

@@ -16,7 +16,7 @@ use Rattle.opc_cli_failures.specs.declared.status.Status.{Status}
 use Rattle.opc_cli_failures.specs.declared.failure.Failure.{Failure}
 use Rattle.opc_cli_questions.specs.Printed.{IsWritten}
 use Rattle.opc_http_serve.specs.Policies.{export_of}
-use Rattle.opc_cli_questions.specs.Answers.{IsAnsweredOver, exported_rows, on_board, rows_answer}
+use Rattle.opc_cli_questions.specs.Answers.{IsAnsweredOver, IsRowsAnswer, exported_rows, on_board}
 use Rattle.opc_cli_tasks.specs.declared.question.PolicyQuestion.{PolicyQuestion}
 use Rattle.opc_import.specs.Lines.{policy_text}
 use Rattle.opc_cli.specs.declared.reading.DatabaseQuestion.{DatabaseQuestion as Borrowed}
@@ -78,5 +78,5 @@ module _ {D : Type 0} (g : disk.Ghosts D) {W : Type 0} (contents : W → Option 
   AnswersAreOfTheExport =
       (s : State) (question : PolicyQuestion) (before written : W) (end : Result Status Failure)
       → (over : IsReadOver s (AnswerTo question) before written end)
-      → IsWritten contents before written (rows_answer (on_board s question) (exported_rows s)) end
+      → IsWritten contents before written (IsRowsAnswer (on_board s question) (exported_rows s)) end
       × (export_of s ≡ policy_text (exported_rows s)) × IsLeft s (AnswerTo question) before written end over

@@ -40,7 +40,7 @@ use Rattle.opc_cli_failures.specs.declared.failure.Failure.{Failure}
 use Rattle.opc_cli_failures.specs.declared.status.Status.{Status}
 use Rattle.opc_cli_failures.specs.declared.status.Status.TheVariants.{Done, Failed}
 use Rattle.opc_cli_failures.specs.Printing.{IsReported}
-use Rattle.opc_cli_failures.specs.Statuses.{IsFailure, status_of_end}
+use Rattle.opc_cli_failures.specs.Statuses.{IsFailure, status_of, status_of_end}
 use Rattle.opc_http_serve.specs.declared.clock.TheConstants.{LAST_MOMENT}
 use Rattle.opc_cli_tasks.specs.declared.work.Lines.{Lines}
 use Rattle.opc_cli_tasks.specs.declared.work.Lines.TheVariants.{Script, Now}
@@ -52,10 +52,16 @@ use Rattle.opc_cli_words.specs.Reading.{Ask, AskForNone}
 use Rattle.opc_cli_program.specs.InputFiles.{AreBytesOf}
 use Rattle.opc_cli_program.specs.declared.input_file.InputFile.{InputFile}
 use Rattle.opc_cli_program.specs.declared.input_file.InputFile.TheVariants as input
+use Rattle.opc_check.specs.declared.form.Form.{Form}
 use Rattle.opc_cli_questions.specs.Checks.{IsReportedCheck}
+use Rattle.opc_cli_questions.specs.Differences.{IsDifference}
 use Rattle.opc_cli_questions.specs.EmptyRoom.{IsEmptyRoomNoted}
-use Rattle.opc_cli_questions.specs.Printed.{IsReportedBy, left_in}
-use Rattle.opc_cli_questions.specs.Questions.{question_answer}
+use Rattle.opc_cli_questions.specs.May.{IsMayAnswer}
+use Rattle.opc_cli_questions.specs.Printed.{IsReportedBy, IsWritten, left_in}
+use Rattle.opc_cli_questions.specs.Questions.{IsQuestionAnswer}
+use Rattle.opc_cli_questions.specs.declared.sides.PolicySide.{PolicySide}
+use Rattle.opc_cli_tasks.specs.declared.question.Comparison.{Comparison}
+use Rattle.opc_cli_tasks.specs.declared.work.Import.{Import}
 use Rattle.opc_cli_tasks.specs.declared.work.Work.{Work}
 use Rattle.opc_cli_tasks.specs.declared.work.Work.TheVariants as work
 use Rattle.opc_cli_tasks.specs.declared.question.PolicyQuestion.{PolicyQuestion}
@@ -63,6 +69,8 @@ use Rattle.opc_cli_tasks.specs.declared.question.PolicyQuestion.TheVariants as q
 use Rattle.opc_cli.specs.RunFiles.{IsApart, IsShared, logged_run, unknown_files}
 use Rattle.opc_cli.specs.declared.run_files.LoggedRun.{LoggedRun}
 use Rattle.opc_cli.specs.declared.run_files.RunFile.{RunFile}
+use Rattle.opc_cli.specs.Compares.{IsOtherSide, IsSideFrom, refused_status}
+use Rattle.opc_cli.specs.DryRuns.{IsDryRunAt}
 use Rattle.opc_cli.specs.Reads.{AccountOf, AnswerTo, DatabaseQuestion, IsReadAt}
 use Rattle.opc_cli.specs.Works.{AreLinesInMemory, IsRunInMemory, IsWorkAt, unknown_log, unknown_moment, unknown_opening}
 use Rattle.opc_cli.specs.Made.{made_line}
@@ -186,16 +194,68 @@ module _ {D : Type 0} (g : disk.Ghosts D) (is_fresh : Bool → D → Type 0) (im
       × IsReadInFile g is_fresh image contents shown before written quiet reported status
       (AccountOf (query_at now asked)))
 
+-- Two policies are compared.
+module _ {W E : Type 0} (contents : W → Option (List ℕ)) (shown : E → Option (List ℕ)) (before written : Watched W)
+    (quiet reported : Watched E) (status : Status) where
+  -- A policy was not read, or a row of it is refused: that was reported, and nothing was written.
+  pub record IsSideRefused (fault : Fault) : Type 0 where
+    pub silent : written ≡ before
+    pub status_is : status ≡ refused_status (status_of fault)
+    pub fault_reported : IsFaultReported shown quiet reported fault
+
+  -- What changes from one to the other was written, and the status says whether rows differ.
+  pub record IsDifferencePrinted (form : Form) (old new : PolicySide) : Type 0 where
+    pub end : Result Status Failure
+    pub printed : IsWritten contents before.inner written.inner (IsDifference form old new) end
+    pub status_is : status ≡ status_of_end end
+    pub end_reported : IsEndReported shown quiet reported end
+
+  abbrev pub IsComparedWith : Form → (old : PolicySide) → (new : Result PolicySide Failure) → Type 0
+  IsComparedWith form old (Ok new) = IsDifferencePrinted form old new
+  IsComparedWith form old (Err failure) = IsSideRefused failure.fault
+
+  -- The new policy was read after the old one.
+  abbrev pub AreComparedWith : Comparison → (old : PolicySide) → Type 0
+  AreComparedWith compared old = (new : Result PolicySide Failure) × IsOtherSide compared.new new
+      × IsComparedWith compared.form old new
+
+  abbrev pub AreComparedBy : Comparison → (old : Result PolicySide Failure) → Type 0
+  AreComparedBy compared (Ok old) = AreComparedWith compared old
+  AreComparedBy compared (Err failure) = IsSideRefused failure.fault
+
+  module _ {D : Type 0} (g : disk.Ghosts D) (is_as_read : Bool → D → Type 0) (image : Image) where
+    -- The old policy was read first. If it is that of a database file, this is what the file holds.
+    abbrev pub AreCompared : Comparison → Type 0
+    AreCompared compared = (old : Result PolicySide Failure) × IsSideFrom g is_as_read image old compared.old
+        × AreComparedBy compared old
+
+-- An import is tried over a copy of a database file.
+module _ {D : Type 0} (g : disk.Ghosts D) (is_as_read : Bool → D → Type 0) (image : Image) {W E : Type 0}
+    (contents : W → Option (List ℕ)) (shown : E → Option (List ℕ)) (left : Option (List ℕ)) (before written : Watched W)
+    (quiet reported : Watched E) (status : Status) where
+  pub record IsDryRunDone (import : Import) : Type 0 where
+    pub end : Result Status Failure
+    pub done : IsDryRunAt g contents image import left before written end
+    pub status_is : status ≡ status_of_end end
+    pub end_reported : IsEndReported shown quiet reported end
+
+  abbrev pub IsDryRunInFile : Import → Type 0
+  IsDryRunInFile import = IsDryRunDone import
+      ⊎ IsUnread g is_as_read image contents shown before written quiet reported status
+
 -- A question about a policy is answered by a policy file, which has this left.
 module _ {W E : Type 0} (contents : W → Option (List ℕ)) (shown : E → Option (List ℕ)) (before written : Watched W)
     (quiet reported : Watched E) (status : Status) where
   abbrev pub IsAnsweredByFile : PolicyQuestion → (left : Option (List ℕ)) → Type 0
   IsAnsweredByFile (question.Ask ask) left =
       IsReportedBy contents (λ (e : Watched E). shown e.inner) (λ (e : Watched E). e.failed) before.inner
-      written.inner quiet reported (question_answer ask) left status
+      written.inner quiet reported (IsQuestionAnswer ask) left status
   IsAnsweredByFile (question.Check q) left =
       IsReportedCheck contents (λ (e : Watched E). shown e.inner) (λ (e : Watched E). e.failed) before.inner
       written.inner quiet reported q.form (option_copied q.allowed) left status
+  IsAnsweredByFile (question.May asked) left =
+      IsReportedBy contents (λ (e : Watched E). shown e.inner) (λ (e : Watched E). e.failed) before.inner
+      written.inner quiet reported (IsMayAnswer asked) left status
 
 -- `image` is what a database file holds.
 module _ {D : Type 0} (g : disk.Ghosts D) (is_fresh : Bool → D → Type 0) (image : Image) {W E : Type 0}
@@ -254,6 +314,10 @@ module _ {D C : Type 0} (g : disk.Ghosts D) (is_fresh : Bool → D → Type 0) (
   -- What a task asks for was done.
   abbrev pub IsTaskDone : Task → Type 0
   IsTaskDone (task.Ask source asked) = IsAnswered source asked
+  IsTaskDone (task.Diff compared) =
+      AreCompared contents shown before written quiet reported status copies is_as_read image compared
+  IsTaskDone (task.DryRun path import) =
+      IsDryRunInFile copies is_as_read image contents shown left before written quiet reported status import
   IsTaskDone (task.Account path asked) =
       IsAccountDone copies is_as_read image contents shown before written quiet reported status asked
   IsTaskDone (task.Work path work) =
@@ -272,6 +336,7 @@ script_file (Now console) = None
 abbrev pub input_file : Task → Option InputFile
 input_file (task.Work path (work.Run policy lines log)) = script_file lines
 input_file (task.Work path (work.Import import)) = option_map (λ file. input.Policy file) import.file
+input_file (task.DryRun path import) = option_map (λ file. input.Policy file) import.file
 input_file (task.InMemory policy lines log) = script_file lines
 input_file other = None
 

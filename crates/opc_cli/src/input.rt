@@ -36,6 +36,7 @@ fn input_file<'a>(task: &Task<'a>) -> Option<InputFile<'a>>
         Task::Work(_, Work::Run { lines, .. }) => script_file(lines),
         Task::InMemory { lines, .. } => script_file(lines),
         Task::Work(_, Work::Import(import)) => import.file.map(InputFile::Policy),
+        Task::DryRun(_, import) => import.file.map(InputFile::Policy),
         // A question opens its policy file itself, and no other task reads a file in the place of the input.
         _ => None,
     }

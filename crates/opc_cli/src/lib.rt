@@ -5,7 +5,9 @@
 
 mod account;
 mod commands;
+mod comparing;
 mod database;
+pub mod dry_run;
 pub mod file;
 mod input;
 pub mod laws;
@@ -38,7 +40,9 @@ ghost use Rattle.opc_cli.specs.Words.{
 
 use crate::account::show_account;
 use crate::commands::list_commands;
+use crate::comparing::compare;
 use crate::database::reason_at;
+use crate::dry_run::dry_run_in_file;
 use crate::file::{Closed, EndedWork, if_missing, work_at};
 use crate::input::do_by_input;
 use crate::made::report_made;
@@ -157,8 +161,12 @@ fn do_task<S: Start, R: Read, W: Write, E: Write>(
         Task::Ask(source, question) => {
             answer_from(rt, start, *source, question, input, output, errors)
         }
+        Task::Diff(compared) => compare(rt, start, compared, output, errors),
         Task::Account(path, asked) => show_account(rt, start, path, asked, output, errors),
         Task::Work(path, work) => work_in_file(rt, start, path, work, input, output, errors),
+        Task::DryRun(path, import) => {
+            dry_run_in_file(rt, start, path, import, input, output, errors)
+        }
         Task::InMemory { policy, lines, log } => {
             run_without_file(rt, *policy, lines, *log, input, output, errors)
         }

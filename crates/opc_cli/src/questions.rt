@@ -9,6 +9,7 @@ use crate::reading::{DatabaseQuestion, read_in_file};
 use opc_cli_failures::status::Status;
 use opc_cli_questions::answer::answer_question;
 use opc_cli_questions::checking::answer_check;
+use opc_cli_questions::may::answer_may;
 use opc_cli_tasks::question::PolicyQuestion;
 use opc_cli_tasks::source::PolicySource;
 use opc_io::watched::Watched;
@@ -59,5 +60,6 @@ fn answer_by<R: Read, W: Write, E: Write>(
         PolicyQuestion::Check(check) => {
             answer_check(alloc, rt, policy, check, input, output, errors)
         }
+        PolicyQuestion::May(asked) => answer_may(alloc, rt, policy, asked, input, output, errors),
     }
 }

@@ -98,7 +98,7 @@ pub(crate) fn read_in_file<S: Start, W: Write, E: Write>(
     }
 }
 
-fn not_read(rt: &HostRuntime, path: &str, refused: NotOpened) -> Failure
+pub(crate) fn not_read(rt: &HostRuntime, path: &str, refused: NotOpened) -> Failure
     ensures { result.fault ≡ opening_fault refused.fault }
 {
     match refused.fault {

@@ -8,3 +8,4 @@ pub mod Kept
 mod Logs
 mod Unlogged
 pub mod Answering
+mod Tried

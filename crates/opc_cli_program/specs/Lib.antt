@@ -9,3 +9,4 @@ pub mod Refusals
 pub mod Imports
 pub mod InputFiles
 pub mod Works
+pub mod DryRuns

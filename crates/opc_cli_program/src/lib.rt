@@ -1,6 +1,7 @@
 //! What the program `opcmds` does over tables that are open: runs, imports, exports and the service.
 #![tactic(auto)]
 
+pub mod dry_run;
 pub mod import;
 pub mod input_file;
 pub mod lines;

@@ -1,9 +1,11 @@
 -- A policy file of which at most one byte past the limit is read.
-use Rattle.std.proofs.Common.{◌≡◌, ◌≤◌, ◌<◌, ◌+◌, ◌⊎◌, ℕ, List, Option, Some, None, IfSome, inl, inr, length, take, subst, ◌∙◌, refl, arith}
+use Rattle.std.proofs.Common.{Err, ◌≡◌, ◌≤◌, ◌<◌, ◌+◌, ◌⊎◌, ℕ, List, Option, Some, None, IfSome, inl, inr, length, take, subst, ◌∙◌, refl, arith}
 use Rattle.std.specs.Prelude.{IsUtf8}
 use Rattle.std.proofs.lemmas.List.{length-take, take_all}
 use Rattle.opc_terms.specs.declared.fault.Fault.{Fault}
 use Rattle.opc_policy_members.specs.declared.row.Row.{Row}
+use Rattle.opc_state.specs.State.{empty}
+use Rattle.opc_machine.specs.Bootstrap.{bootstrapped}
 use Rattle.opc_cli_failures.specs.Statuses.{IsFailure}
 use Rattle.opc_cli_questions.specs.PolicyFiles.{AreRead, IsBadFile, IsNoPolicyFile, IsNoText, IsPolicyFile, IsRefused, IsUnread}
 use Rattle.opc_check.specs.Unread.{policy_limit}
@@ -55,3 +57,10 @@ pub opened_is_unread : (held left : Option (List ℕ)) (fault : Fault) → HasAl
 opened_is_unread held left fault has (inl failed) = inl failed
 opened_is_unread None left fault has (inr refused) = inr (record { bytes = refused.bytes; whole = tt; no_file = refused.no_file })
 opened_is_unread (Some all) left fault has (inr refused) = inr (subst (λ l. IsRefused l fault) has refused)
+
+-- Rows that were read were refused, or there was no memory.
+pub not_made : (left : Option (List ℕ)) (rows : List Row) (fault : Fault) → AreRead left rows
+    → IsFailure fault ⊎ (bootstrapped rows empty ≡ Err fault)
+    → IsUnread left fault ⊎ ((read : List Row) × AreRead left read × (bootstrapped read empty ≡ Err fault))
+not_made left rows fault read (inl failed) = inl (inl failed)
+not_made left rows fault read (inr refused) = inr (rows, read, refused)

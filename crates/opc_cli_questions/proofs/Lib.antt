@@ -4,3 +4,5 @@ mod Bytes
 pub mod Parts
 pub mod Named
 mod OneRow
+pub mod Places
+pub mod Differences

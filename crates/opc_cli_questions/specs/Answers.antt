@@ -1,5 +1,5 @@
 -- The answers of tables to questions about their policy.
-use Rattle.std.specs.Prelude.{ℕ, List, None, Option, Result, Ok}
+use Rattle.std.specs.Prelude.{◌≡◌, ℕ, List, None, Option, Result, Ok}
 use Rattle.std.specs.Option.{option_copied}
 use Rattle.opc_terms.specs.declared.fault.Fault.{Fault}
 use Rattle.opc_policy_members.specs.declared.row.Row.{Row}
@@ -14,7 +14,8 @@ use Rattle.opc_cli_failures.specs.declared.status.Status.{Status}
 use Rattle.opc_answers.specs.declared.question.About.{About}
 use Rattle.opc_answers.specs.declared.question.About.TheVariants.{Command, Access}
 use Rattle.opc_cli_questions.specs.Printed.{PrintedAnswer, IsWritten}
-use Rattle.opc_cli_questions.specs.Questions.{question_answer}
+use Rattle.opc_cli_questions.specs.May.{IsMayAnswer}
+use Rattle.opc_cli_questions.specs.Questions.{IsQuestionAnswer}
 use Rattle.opc_cli_questions.specs.Kinds.{kind_in, kind_or}
 use Rattle.opc_cli_tasks.specs.declared.question.Ask.{Ask}
 use Rattle.opc_cli_tasks.specs.declared.question.PolicyQuestion.{PolicyQuestion}
@@ -35,15 +36,17 @@ ask_on s ask = record ask { question = record ask.question { about = about_on s 
 abbrev pub on_board : State → PolicyQuestion → PolicyQuestion
 on_board s (question.Ask ask) = question.Ask (ask_on s ask)
 on_board s (question.Check c) = question.Check c
+on_board s (question.May asked) = question.May asked
 
--- What the rows of a policy answer. Those of an export can be loaded, so that `check` has notes on them alone.
-abbrev pub rows_answer : PolicyQuestion → List Row → Result PrintedAnswer Fault
-rows_answer (question.Ask ask) rows = question_answer ask rows
-rows_answer (question.Check c) rows = Ok (noted c.form (option_copied c.allowed) None rows)
+-- The rows of a policy answer this. Those of an export can be loaded, so that `check` has notes on them alone.
+abbrev pub IsRowsAnswer : PolicyQuestion → List Row → Result PrintedAnswer Fault → Type 0
+IsRowsAnswer (question.Ask ask) rows answer = IsQuestionAnswer ask rows answer
+IsRowsAnswer (question.Check c) rows answer = Ok (noted c.form (option_copied c.allowed) None rows) ≡ answer
+IsRowsAnswer (question.May asked) rows answer = IsMayAnswer asked rows answer
 
--- what a state answers to a question
-abbrev pub state_answer : State → PolicyQuestion → Result PrintedAnswer Fault
-state_answer s q = rows_answer (on_board s q) (exported_rows s)
+-- a state answers this to a question
+abbrev pub IsStateAnswer : State → PolicyQuestion → Result PrintedAnswer Fault → Type 0
+IsStateAnswer s q answer = IsRowsAnswer (on_board s q) (exported_rows s) answer
 
 module _ {T W : Type 0} (m : Meaning T) (contents : W → Option (List ℕ)) (old new : T) (before written : W)
     (end : Result Status Failure) where
@@ -52,4 +55,4 @@ module _ {T W : Type 0} (m : Meaning T) (contents : W → Option (List ℕ)) (ol
   pub record IsAnsweredOver (q : PolicyQuestion) : Type 0 where
     pub kept : IsKept m old new
     pub answers : m.is_sure new → (s : State) → m.represents old s
-        → IsWritten contents before written (state_answer s q) end
+        → IsWritten contents before written (IsStateAnswer s q) end

@@ -9,6 +9,10 @@ pub mod Answers
 pub mod Kinds
 pub mod Laws
 pub mod WhoPrinted
+pub mod MayPrinted
+pub mod May
 pub mod ShownRows
 pub mod StoredNotes
 pub mod EmptyRoom
+pub mod Sides
+pub mod Differences

@@ -53,25 +53,27 @@ left_in holds left None = left
 left_in holds left (Some path) = holds path.now
 
 module _ {W : Type 0} (contents : W → Option (List ℕ)) (before written : W) where
-  -- The text was written, with this status; if there is no answer, its fault is returned. Or there was no memory, or
-  -- the output failed.
-  abbrev pub IsWritten : Result PrintedAnswer Fault → Result Status Failure → Type 0
-  IsWritten answer (Ok status) =
-      (text : List ℕ) × (answer ≡ Ok (answered text status)) × Appends (contents before) (contents written) text
-  IsWritten answer (Err failure) = IsFailure failure.fault ⊎ ((answer ≡ Err failure.fault) × (written ≡ before))
+  -- The text of an answer was written, with its status; if there is no answer, its fault is returned. Or there was no
+  -- memory, or the output failed.
+  abbrev pub IsWritten : (is_answer : Result PrintedAnswer Fault → Type 0) → Result Status Failure → Type 0
+  IsWritten is_answer (Ok status) =
+      (text : List ℕ) × is_answer (Ok (answered text status)) × Appends (contents before) (contents written) text
+  IsWritten is_answer (Err failure) =
+      IsFailure failure.fault ⊎ (is_answer (Err failure.fault) × (written ≡ before))
 
   -- No rows were read and nothing was written, or the rows that the policy file had answer.
-  abbrev pub IsAnsweredBy : (List Row → Result PrintedAnswer Fault) → Option (List ℕ) → Result Status Failure → Type 0
-  IsAnsweredBy answer left end =
+  abbrev pub IsAnsweredBy : (answers : List Row → Result PrintedAnswer Fault → Type 0) → Option (List ℕ)
+      → Result Status Failure → Type 0
+  IsAnsweredBy answers left end =
       (IsErrAnd end (λ failure. IsUnread left failure.fault) × (written ≡ before))
-      ⊎ ((rows : List Row) × AreRead left rows × IsWritten (answer rows) end)
+      ⊎ ((rows : List Row) × AreRead left rows × IsWritten (answers rows) end)
 
 -- The answer was given, and the status returned; a fault is printed, unless a write of it failed.
 pub record IsReportedBy {W K : Type 0} (contents : W → Option (List ℕ)) (held : K → Option (List ℕ))
-    (has_failed : K → Bool) (before written : W) (quiet reported : K) (answer : List Row → Result PrintedAnswer Fault)
-    (left : Option (List ℕ)) (status : Status) : Type 0 where
+    (has_failed : K → Bool) (before written : W) (quiet reported : K)
+    (answers : List Row → Result PrintedAnswer Fault → Type 0) (left : Option (List ℕ)) (status : Status) : Type 0 where
   pub end : Result Status Failure
-  pub answered : IsAnsweredBy contents before written answer left end
+  pub answered : IsAnsweredBy contents before written answers left end
   pub status_is : status ≡ status_of_end end
   pub printed : IfErr end (λ failure. has_failed reported ≡ false
       → IsReported failure.fault (held quiet) (held reported))

@@ -1,5 +1,5 @@
 -- The answer of the rows of a policy to a question, and how it is written.
-use Rattle.std.specs.Prelude.{ℕ, Bool, List, Option, Some, None, Result, Ok, Err}
+use Rattle.std.specs.Prelude.{◌≡◌, ℕ, Bool, List, Option, Some, None, Result, Ok, Err}
 use Rattle.opc_terms.specs.declared.fault.Fault.{Fault}
 use Rattle.opc_policy_members.specs.declared.row.Row.{Row}
 use Rattle.opc_policy.specs.declared.verdict.Verdict.{Verdict}
@@ -51,3 +51,7 @@ written form (Err fault) = Err fault
 -- what the rows of a policy answer
 abbrev pub question_answer : Ask → List Row → Result PrintedAnswer Fault
 question_answer ask rows = written ask.form (answer_of ask.question rows)
+
+-- this is that
+abbrev pub IsQuestionAnswer : Ask → List Row → Result PrintedAnswer Fault → Type 0
+IsQuestionAnswer ask rows answer = question_answer ask rows ≡ answer

@@ -4,7 +4,7 @@ ghost use Rattle.std.specs.Io.KnownBytes.{Appends};
 ghost use Rattle.opc_answers.specs.Answers.{CanBePrinted};
 ghost use Rattle.opc_cli_failures.specs.Statuses.{IsFailure};
 ghost use Rattle.opc_cli_questions.specs.Printed.{IsAnsweredBy, IsReportedBy, IsWritten, left_in, status_of_verdict};
-ghost use Rattle.opc_cli_questions.specs.Questions.{question_answer, shown, status_of, status_of_why, why_shown};
+ghost use Rattle.opc_cli_questions.specs.Questions.{IsQuestionAnswer, shown, status_of, status_of_why, why_shown};
 
 use crate::asking::{unanswered, unanswered_by};
 use crate::openings::Openings;
@@ -34,7 +34,7 @@ pub fn answer_question<F: Openings, R: Read, W: Write, K: Sink>(
     errors: &mut K,
 ) -> Status
     ensures { IsReportedBy W.contents K.held K.has_failed output.old output.new errors.old errors.new
-        (question_answer ask.now) (left_in (F.holds files.now) (R.remaining input.old) policy.entry) result }
+        (IsQuestionAnswer ask.now) (left_in (F.holds files.now) (R.remaining input.old) policy.entry) result }
 {
     let end = answer_by(alloc, files, policy, ask, input, output);
     reported(end, &paths_of(policy), errors)
@@ -48,7 +48,7 @@ fn answer_by<F: Openings, R: Read, W: Write>(
     input: &mut R,
     output: &mut W,
 ) -> Result<Status, Failure>
-    ensures { IsAnsweredBy W.contents output.old output.new (question_answer ask.now)
+    ensures { IsAnsweredBy W.contents output.old output.new (IsQuestionAnswer ask.now)
         (left_in (F.holds files.now) (R.remaining input.old) policy.entry) result }
 {
     let file = read_rows_from(alloc, files, policy, input)?;
@@ -63,7 +63,7 @@ fn print_by<W: Write>(
     ask: &Ask<'_>,
     output: &mut W,
 ) -> Result<Status, Failure>
-    ensures { IsWritten W.contents output.old output.new (question_answer ask.now file.now.rows.items) result }
+    ensures { IsWritten W.contents output.old output.new (IsQuestionAnswer ask.now file.now.rows.items) result }
 {
     match answer_of(alloc, file.rows.as_slice(), &ask.question) {
         Ok(answer) => print_answer(alloc, &answer, ask.form, output),
@@ -78,7 +78,7 @@ pub(crate) fn print_ask<W: Write>(
     ask: &Ask<'_>,
     output: &mut W,
 ) -> Result<Status, Failure>
-    ensures { IsWritten W.contents output.old output.new (question_answer ask.now rows.now) result }
+    ensures { IsWritten W.contents output.old output.new (IsQuestionAnswer ask.now rows.now) result }
 {
     match answer_of(alloc, rows, &ask.question) {
         Ok(answer) => print_answer(alloc, &answer, ask.form, output),

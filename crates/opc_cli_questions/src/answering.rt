@@ -7,21 +7,22 @@ ghost use Rattle.opc_cli_questions.specs.Printed.{IsWritten, answered};
 ghost use Rattle.opc_state.specs.Asked.{Loads};
 ghost use Rattle.opc_cli_questions.specs.Answers.{
   IsAnsweredOver,
+  IsRowsAnswer,
   about_on,
   ask_on,
   exported_rows,
   on_board,
-  rows_answer,
 };
 
 use crate::answer::print_ask;
 use crate::check_answer::noted;
 use crate::kinds::kind_on;
+use crate::may::print_asked_may;
 use crate::printing::{PrintedAnswer, print};
 use opc_answers::question::{About, Question};
 use opc_cli_failures::failure::Failure;
 use opc_cli_failures::status::Status;
-use opc_cli_tasks::question::{Ask, PolicyCheck, PolicyQuestion};
+use opc_cli_tasks::question::{Ask, MayQuestion, PolicyCheck, PolicyQuestion};
 use opc_names::name::ConsoleName;
 use opc_policy_members::row::Row;
 use opc_state::tables::Tables;
@@ -84,6 +85,11 @@ fn on_board<'a, T: Tables>(
             form: check.form,
             ..*check
         })),
+        // (The same of these fields.)
+        PolicyQuestion::May(asked) => Ok(PolicyQuestion::May(MayQuestion {
+            form: asked.form,
+            ..*asked
+        })),
     }
 }
 
@@ -132,7 +138,7 @@ fn print_made<W: Write>(
     output: &mut W,
 ) -> Result<Status, Failure>
     ensures ok { IfOk made (λ answer. IsWritten W.contents output.old output.new
-        (Ok (answered (string_bytes answer.text) answer.status)) result) }
+        (λ other. Ok (answered (string_bytes answer.text) answer.status) ≡ other) result) }
     ensures fault { IfErr made (λ fault. IsErrAnd result (λ failure. failure.fault ≡ fault)) }
     ensures silent { IfErr made (λ _. output.new ≡ output.old) }
 {
@@ -149,12 +155,13 @@ fn print_asked<W: Write>(
     output: &mut W,
 ) -> Result<Status, Failure>
     ensures { IsWritten W.contents output.old output.new
-        (rows_answer asking.now.question asking.now.rows.items) result }
+        (IsRowsAnswer asking.now.question asking.now.rows.items) result }
 {
     let rows = asking.rows.as_slice();
     match &asking.question {
         PolicyQuestion::Ask(ask) => print_ask(alloc, rows, ask, output),
         PolicyQuestion::Check(check) => print_made(check_answer(alloc, rows, check), output),
+        PolicyQuestion::May(asked) => print_asked_may(alloc, rows, asked, output),
     }
 }
 

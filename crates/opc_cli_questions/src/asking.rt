@@ -14,6 +14,7 @@ ghost use Rattle.opc_cli_questions.specs.Asking.{
   user_in,
   users_in,
 };
+ghost use Rattle.opc_cli_questions.specs.May.{HelpsMay, may_help};
 
 use crate::policy_file::PolicyText;
 use crate::refusals::refused;
@@ -21,6 +22,7 @@ use opc_answers::question::{About, Asks, Question};
 use opc_cli_commands::{hint_about, nearest, question};
 use opc_cli_failures::failure::{Failure, Place};
 use opc_cli_failures::reason::Reason;
+use opc_cli_tasks::question::MayQuestion;
 use opc_names::name::{ConsoleName, UserId};
 use opc_policy_members::row::Row;
 use opc_terms::fault::Fault;
@@ -182,5 +184,61 @@ pub(crate) fn unanswered_by(
             cause: Some(cause),
         },
         None => unanswered(alloc, rows, question, fault),
+    }
+}
+
+/// What helps whoever asked what a user may.
+fn may_help(
+    alloc: Global,
+    rows: &[Row],
+    asked: &MayQuestion,
+    fault: &Fault,
+) -> Result<Option<String>, AllocError>
+    ensures { IfOk result (λ help. IfSome help (λ text.
+        may_help rows.now asked.now fault.now ≡ Some (string_bytes text))) }
+{
+    match fault {
+        Fault::Missing(_) => Ok(Some(no_user(alloc, rows, &asked.user)?)),
+        Fault::NoConsole => console_help(alloc, rows, &asked.console),
+        // The code and the text of any other fault say enough.
+        _ => Ok(None),
+    }
+}
+
+/// The fault of such a question that rows do not answer, with what helps.
+pub(crate) fn may_unanswered(
+    alloc: Global,
+    rows: &[Row],
+    asked: &MayQuestion,
+    fault: Fault,
+) -> Failure
+    ensures fault { result.fault ≡ fault }
+    ensures cause { HelpsMay rows.now asked.now fault result.cause }
+{
+    let help = may_help(alloc, rows, asked, &fault);
+    match help {
+        Ok(Some(help)) => Failure::of(fault, Place::Input, Reason::Hint(help)),
+        Ok(None) | Err(_) => Failure { fault, cause: None },
+    }
+}
+
+/// The same of a policy file, with the row that is refused, or else with what helps.
+pub(crate) fn may_unanswered_by(
+    alloc: Global,
+    place: Place,
+    file: &PolicyText,
+    asked: &MayQuestion,
+    fault: Fault,
+) -> Failure
+    ensures { result.fault ≡ fault }
+{
+    let rows = file.rows.as_slice();
+    let Failure { fault, cause } = refused(alloc, place, &file.bytes, &[], rows, fault);
+    match cause {
+        Some(cause) => Failure {
+            fault,
+            cause: Some(cause),
+        },
+        None => may_unanswered(alloc, rows, asked, fault),
     }
 }

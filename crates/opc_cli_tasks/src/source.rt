@@ -8,3 +8,12 @@ pub enum PolicySource<'a> {
     /// The tables of the database file at this path.
     Database(&'a str),
 }
+
+/// A policy that is compared with another one.
+#[derive(Clone, Copy)]
+pub enum NamedPolicy<'a> {
+    /// The policy file at this path.
+    File(&'a str),
+    /// The tables of the database file at this path.
+    Database(&'a str),
+}

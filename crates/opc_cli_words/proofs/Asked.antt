@@ -2,7 +2,7 @@
 use Rattle.std.proofs.Common.{◌≡◌, ◌∙◌, ℕ, List, [], Option, Some, codes, ap, ap₂, false, refl, subst, sym}
 use Rattle.std.specs.Borrow.{Bor}
 use Rattle.std.specs.Option.{option_map_or}
-use Rattle.std.specs.Prelude.{◌∷◌, ◌||◌, None, if◌then◌else◌, option_map, unwrap_or}
+use Rattle.std.specs.Prelude.{Bool, ◌||◌, None, if◌then◌else◌, option_map, unwrap_or}
 use Rattle.std.specs.Str.{bytes_eq}
 use Rattle.clap.specs.Matches.{first_value, subcommand_name_of}
 use Rattle.clap.specs.Simple.{subcommand_rows_of}
@@ -17,8 +17,11 @@ use Rattle.opc_account.specs.declared.asked.AskedQuery.{AskedQuery}
 use Rattle.opc_answers.specs.declared.question.Asks.{Asks}
 use Rattle.opc_answers.specs.declared.question.Asks.TheVariants.{Why, Who}
 use Rattle.opc_cli_tasks.specs.declared.question.Ask.{Ask}
+use Rattle.opc_cli_tasks.specs.declared.question.Comparison.{Comparison}
+use Rattle.opc_cli_tasks.specs.declared.question.MayQuestion.{MayQuestion}
 use Rattle.opc_cli_tasks.specs.declared.question.PolicyCheck.{PolicyCheck}
 use Rattle.opc_cli_tasks.specs.declared.question.PolicyQuestion.TheVariants as question
+use Rattle.opc_cli_tasks.specs.declared.source.NamedPolicy.{NamedPolicy}
 use Rattle.opc_cli_tasks.specs.declared.source.PolicySource.{PolicySource}
 use Rattle.opc_cli_tasks.specs.declared.work.Address.{Address}
 use Rattle.opc_cli_tasks.specs.declared.work.Import.{Import}
@@ -39,15 +42,16 @@ use Rattle.opc_cli_words.specs.Accounts.{
 use Rattle.opc_cli_words.specs.Moments.{row_time_of}
 use Rattle.opc_cli_words.specs.declared.moment.DaySecond.TheVariants as day
 use Rattle.opc_cli_words.specs.Numbers.{number_between}
-use Rattle.opc_cli_words.specs.Checks.{Check, first_mistake}
+use Rattle.opc_cli_words.specs.Checks.{first_mistake}
 use Rattle.opc_cli_words.specs.declared.mistake.Mistake.{Mistake}
-use Rattle.opc_cli_words.specs.declared.mistake.Mistake.TheVariants as wrong
 use Rattle.opc_cli_words.specs.Services.{IsAddress}
-use Rattle.opc_cli_words.specs.Sources.{IsSource}
+use Rattle.opc_cli_words.specs.Sources.{IsNamed, IsSource}
 use Rattle.opc_cli_words.specs.Options.{
   IsAsk,
   IsAskedBy,
+  IsComparison,
   IsImport,
+  IsMayQuestion,
   IsPolicyCheck,
   IsService,
   actor_in,
@@ -55,6 +59,7 @@ use Rattle.opc_cli_words.specs.Options.{
   import_checks,
   is_set,
   longest,
+  may_checks,
   policy_checks,
   question_checks,
   service_checks,
@@ -68,20 +73,9 @@ at_once : {p q p' q' : Option (List ℕ)} {m m' : Option (List ℕ)} → p ≡ p
 at_once {p} {q} {p'} {q'} {m} {m'} e f g a is =
     subst (λ t. IsAddress p' q' t a) g (subst (λ t. IsAddress p' t m a) f (subst (λ t. IsAddress t q m a) e is))
 
--- the checks of a command, by those of the commands that have some
-abbrev options_by : (explain run import serve who check account : List Check) → (command : List ℕ) → List Check
-options_by explain run import serve who check account command =
-    if bytes_eq command (codes "explain") then explain
-    else if bytes_eq command (codes "run") then run
-    else if bytes_eq command (codes "import") then import
-    else if bytes_eq command (codes "export") then []
-    else if bytes_eq command (codes "serve") then serve
-    else if bytes_eq command (codes "who") then who
-    else if bytes_eq command (codes "check") then check
-    else if bytes_eq command (codes "account") then account
-    else if bytes_eq command (codes "digest") then []
-    else if bytes_eq command (codes "commands") then []
-    else (wrong.NoCommand, false) ∷ []
+-- whichever is chosen, if each is the same
+chosen : {A : Type 0} {x x' y y' : A} → (is : Bool) → x ≡ x' → y ≡ y' → (if is then x else y) ≡ (if is then x' else y')
+chosen is e f = ap₂ (λ a b. if is then a else b) e f
 
 -- two ways in which the values of options are known
 module _ (one other : List ℕ → Option (List ℕ)) (same : (name : List ℕ) → one name ≡ other name) where
@@ -173,12 +167,36 @@ module _ (one other : List ℕ → Option (List ℕ)) (same : (name : List ℕ) 
     form = is.form ∙ ap form_of (set (codes "json"));
   }
 
+  may : (s : PolicySource) (q : MayQuestion) → IsMayQuestion one s q → IsMayQuestion other s q
+  may s q is = record {
+    user = is.user ∙ given (codes "user");
+    console = is.console ∙ same (codes "console");
+    allowed = is.allowed ∙ set (codes "allowed");
+    form = is.form ∙ ap form_of (set (codes "json"));
+    policy = source s is.policy;
+  }
+
+  named : (name : List ℕ) (p : NamedPolicy) → IsNamed (unwrap_or (one name) []) p → IsNamed (unwrap_or (other name) []) p
+  named name p is = subst (λ text. IsNamed text p) (given name) is
+
+  comparison : (q : Comparison) → IsComparison one q → IsComparison other q
+  comparison q is = record {
+    old = named (codes "old") q.old is.old;
+    new = named (codes "new") q.new is.new;
+    form = is.form ∙ ap form_of (set (codes "json"));
+  }
+
   pub task_is : (command : List ℕ) (t : Task) → IsTaskOf one command t → IsTaskOf other command t
   task_is command (task.Ask s (question.Ask a)) is = ask command s a is
   task_is command (task.Ask s (question.Check p)) is = (is.0, policy_check s p is.1)
+  task_is command (task.Ask s (question.May q)) is = (is.0, may s q is.1)
+  task_is command (task.Diff q) is = (is.0, comparison q is.1)
   task_is command (task.Account path q) is = (is.0, is.1 ∙ given (codes "db"), account q is.2)
   task_is command (task.Work path (work.Run policy l log)) is = (is.0, sym (same (codes "db")) ∙ is.1, run policy l log is.2)
-  task_is command (task.Work path (work.Import i)) is = (is.0, is.1 ∙ given (codes "db"), import i is.2)
+  task_is command (task.Work path (work.Import i)) is =
+      (is.0, is.1 ∙ given (codes "db"), import i is.2, sym (set (codes "dry-run")) ∙ is.3)
+  task_is command (task.DryRun path i) is =
+      (is.0, is.1 ∙ given (codes "db"), import i is.2, sym (set (codes "dry-run")) ∙ is.3)
   task_is command (task.Work path work.Export) is = (is.0, is.1 ∙ given (codes "db"))
   task_is command (task.Work path (work.Serve s)) is = (is.0, is.1 ∙ given (codes "db"), service s is.2)
   task_is command (task.InMemory policy l log) is = (is.0, sym (same (codes "db")) ∙ is.1, run policy l log is.2)
@@ -266,17 +284,24 @@ module _ (one other : List ℕ → Option (List ℕ)) (same : (name : List ℕ) 
   policies : policy_checks one ≡ policy_checks other
   policies = rw (same (codes "allow"), same (codes "file"), same (codes "policy"), same (codes "db")) refl
 
+  of_user : may_checks one ≡ may_checks other
+  of_user = rw (same (codes "user"), same (codes "console"), same (codes "file"), same (codes "policy"), same (codes "db")) refl
+
   pub same_options : (command : List ℕ) → options_of one command ≡ options_of other command
   same_options command =
-      let asked : List Check = question_checks other (other (codes "command")) in
-      ap (λ e. options_by e (run_checks one) (import_checks one) (service_checks one) (who_checks one) (policy_checks one) (account_checks one) command)
-      questions
-      ∙ ap (λ r. options_by asked r (import_checks one) (service_checks one) (who_checks one) (policy_checks one) (account_checks one) command) runs
-      ∙ ap (λ i. options_by asked (run_checks other) i (service_checks one) (who_checks one) (policy_checks one) (account_checks one) command) imports
-      ∙ ap (λ s. options_by asked (run_checks other) (import_checks other) s (who_checks one) (policy_checks one) (account_checks one) command) services
-      ∙ ap (λ w. options_by asked (run_checks other) (import_checks other) (service_checks other) w (policy_checks one) (account_checks one) command) enquiries
-      ∙ ap (λ p. options_by asked (run_checks other) (import_checks other) (service_checks other) (who_checks other) p (account_checks one) command) policies
-      ∙ ap (λ a. options_by asked (run_checks other) (import_checks other) (service_checks other) (who_checks other) (policy_checks other) a command) rows
+      chosen (bytes_eq command (codes "explain")) questions
+      (chosen (bytes_eq command (codes "run")) runs
+      (chosen (bytes_eq command (codes "import")) imports
+      (chosen (bytes_eq command (codes "export")) refl
+      (chosen (bytes_eq command (codes "serve")) services
+      (chosen (bytes_eq command (codes "who")) enquiries
+      (chosen (bytes_eq command (codes "check")) policies
+      (chosen (bytes_eq command (codes "account")) rows
+      (chosen (bytes_eq command (codes "digest")) refl
+      (chosen (bytes_eq command (codes "commands")) refl
+      (chosen (bytes_eq command (codes "may")) of_user
+      (chosen (bytes_eq command (codes "diff")) refl
+      refl)))))))))))
 
 -- a name and rows that mean the same
 module _ {B : Type 0} (name_of : B → List ℕ) (rows_in : B → List Row) where

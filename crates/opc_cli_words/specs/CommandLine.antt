@@ -50,7 +50,8 @@ run_options =
 
 abbrev pub import_options : List Rule
 import_options =
-    needed (codes "db") ∷ needed (codes "batch") ∷ valued (codes "console") ∷ positional (codes "file") ∷ []
+    needed (codes "db") ∷ needed (codes "batch") ∷ valued (codes "console") ∷ flag (codes "dry-run")
+    ∷ positional (codes "file") ∷ []
 
 abbrev pub export_options : List Rule
 export_options = needed (codes "db") ∷ []
@@ -67,6 +68,17 @@ serve_options =
 
 abbrev pub who_options : List Rule
 who_options = question_options ++ flag (codes "allowed") ∷ source_options
+
+abbrev pub may_options : List Rule
+may_options =
+    needed (codes "user") ∷ valued (codes "console") ∷ flag (codes "allowed") ∷ flag (codes "json") ∷ source_options
+
+-- a value alone that is required
+abbrev pub needed_positional : List ℕ → Rule
+needed_positional name = record (positional name) { required = true }
+
+abbrev pub diff_options : List Rule
+diff_options = needed_positional (codes "old") ∷ needed_positional (codes "new") ∷ flag (codes "json") ∷ []
 
 abbrev pub check_options : List Rule
 check_options = source_options ++ valued (codes "allow") ∷ flag (codes "json") ∷ []
@@ -92,6 +104,8 @@ commands =
     ∷ command (codes "account") account_options
     ∷ command (codes "digest") []
     ∷ command (codes "commands") []
+    ∷ command (codes "may") may_options
+    ∷ command (codes "diff") diff_options
     ∷ []
 
 -- the program before its commands: it has a version, a command is required, missing arguments are answered with the

@@ -34,6 +34,8 @@ use Rattle.opc_answers.specs.declared.question.Asks.TheVariants.{Why, Who}
 use Rattle.opc_check.specs.declared.form.Form.{Form}
 use Rattle.opc_check.specs.declared.form.Form.TheVariants.{Json, Text}
 use Rattle.opc_cli_tasks.specs.declared.question.Ask.{Ask}
+use Rattle.opc_cli_tasks.specs.declared.question.Comparison.{Comparison}
+use Rattle.opc_cli_tasks.specs.declared.question.MayQuestion.{MayQuestion}
 use Rattle.opc_cli_tasks.specs.declared.question.PolicyCheck.{PolicyCheck}
 use Rattle.opc_cli_tasks.specs.declared.source.PolicySource.{PolicySource}
 use Rattle.opc_cli_tasks.specs.declared.work.Import.{Import}
@@ -54,7 +56,7 @@ use Rattle.opc_cli_words.specs.Enquiries.{
 use Rattle.opc_cli_words.specs.Numbers.{number_between}
 use Rattle.opc_cli_words.specs.Quotes.{is_verb_alone}
 use Rattle.opc_cli_words.specs.Services.{IsAddress, address_checks}
-use Rattle.opc_cli_words.specs.Sources.{IsSource, source_check}
+use Rattle.opc_cli_words.specs.Sources.{IsNamed, IsSource, source_check}
 use Rattle.opc_cli_words.specs.declared.mistake.Mistake.TheVariants as wrong
 use Rattle.opc_cli_words.specs.declared.mistake.Opt.TheVariants as opt
 
@@ -179,6 +181,10 @@ module _ (value : List ℕ → Option (List ℕ)) where
       (value (codes "level")) (given (codes "class"))
       ++ console_option ∷ quotes_option ∷ source_option ∷ logon_option (value (codes "command")) ∷ []
 
+  -- of `may`,
+  abbrev pub may_checks : List Check
+  may_checks = user_option ∷ console_option ∷ source_option ∷ []
+
   -- and of `check`
   abbrev pub policy_checks : List Check
   policy_checks = allow_check (value (codes "allow")) ∷ source_option ∷ []
@@ -218,6 +224,20 @@ module _ (value : List ℕ → Option (List ℕ)) where
     pub strict : serve.strict ≡ is_set (codes "strict")
     pub log : serve.log ≡ is_set (codes "log")
     pub policies : option_copied serve.policies ≡ value (codes "policies")
+
+  -- of `may`
+  pub record IsMayQuestion (source : PolicySource) (asked : MayQuestion) : Type 0 where
+    pub user : asked.user ≡ given (codes "user")
+    pub console : asked.console ≡ value (codes "console")
+    pub allowed : asked.allowed ≡ is_set (codes "allowed")
+    pub form : asked.form ≡ form_of (is_set (codes "json"))
+    pub policy : IsSource (value (codes "file")) (value (codes "policy")) (value (codes "db")) source
+
+  -- of `diff`
+  pub record IsComparison (asked : Comparison) : Type 0 where
+    pub old : IsNamed (given (codes "old")) asked.old
+    pub new : IsNamed (given (codes "new")) asked.new
+    pub form : asked.form ≡ form_of (is_set (codes "json"))
 
   -- and of `check`
   pub record IsPolicyCheck (source : PolicySource) (check : PolicyCheck) : Type 0 where

@@ -1,7 +1,25 @@
 -- The source of a command's policy, by its argument FILE and its options --policy and --db.
-use Rattle.std.specs.Prelude.{◌≡◌, ◌&&◌, ◌||◌, ℕ, List, Option, Some, None, is_none}
+use Rattle.std.specs.Prelude.{
+  ◌≡◌,
+  ◌&&◌,
+  ◌||◌,
+  ℕ,
+  true,
+  false,
+  List,
+  Option,
+  Some,
+  None,
+  codes,
+  drop,
+  is_none,
+  nat_eq,
+}
+use Rattle.std.specs.List.{starts_with}
 use Rattle.std.specs.Option.{option_copied}
 use Rattle.opc_cli_words.specs.Checks.{Check}
+use Rattle.opc_cli_tasks.specs.declared.source.NamedPolicy.{NamedPolicy}
+use Rattle.opc_cli_tasks.specs.declared.source.NamedPolicy.TheVariants as named
 use Rattle.opc_cli_tasks.specs.declared.source.PolicySource.{PolicySource}
 use Rattle.opc_cli_tasks.specs.declared.source.PolicySource.TheVariants.{PolicyFile, Database}
 use Rattle.opc_cli_words.specs.declared.mistake.Mistake.TheVariants as wrong
@@ -23,3 +41,8 @@ abbrev pub IsSource : (file policy database : Option (List ℕ)) → PolicySourc
 IsSource file policy database (PolicyFile path) = (option_copied path ≡ policy_file file policy) × (database ≡ None)
 IsSource file policy database (Database path) =
     (database ≡ Some path.now) × (file ≡ None) × (policy ≡ None)
+
+-- A policy that is compared: the database file behind `db:`, or else the policy file.
+abbrev pub IsNamed : List ℕ → NamedPolicy → Type 0
+IsNamed text (named.File path) = (starts_with nat_eq text (codes "db:") ≡ false) × (path.now ≡ text)
+IsNamed text (named.Database path) = (starts_with nat_eq text (codes "db:") ≡ true) × (path.now ≡ drop 3 text)

@@ -2,6 +2,7 @@
 use Rattle.std.specs.Prelude.{
   ◌≡◌,
   ℕ,
+  true,
   false,
   List,
   [],
@@ -22,11 +23,15 @@ use Rattle.opc_cli_words.specs.Accounts.{IsAccount, account_checks}
 use Rattle.opc_cli_words.specs.Checks.{Check, first_mistake}
 use Rattle.opc_cli_words.specs.Options.{
   IsAsk,
+  IsComparison,
   IsImport,
+  IsMayQuestion,
   IsPolicyCheck,
   IsService,
   given,
   import_checks,
+  is_set,
+  may_checks,
   policy_checks,
   question_checks,
   service_checks,
@@ -53,6 +58,8 @@ module _ (value : List ℕ → Option (List ℕ)) where
       else if bytes_eq command (codes "account") then account_checks value
       else if bytes_eq command (codes "digest") then []
       else if bytes_eq command (codes "commands") then []
+      else if bytes_eq command (codes "may") then may_checks value
+      else if bytes_eq command (codes "diff") then []
       else (wrong.NoCommand, false) ∷ []
 
   -- what a command of this name asks for
@@ -60,12 +67,19 @@ module _ (value : List ℕ → Option (List ℕ)) where
   IsTaskOf command (task.Ask source (question.Ask ask)) = IsAsk value command source ask
   IsTaskOf command (task.Ask source (question.Check check)) =
       (command ≡ codes "check") × IsPolicyCheck value source check
+  IsTaskOf command (task.Ask source (question.May asked)) =
+      (command ≡ codes "may") × IsMayQuestion value source asked
+  IsTaskOf command (task.Diff asked) = (command ≡ codes "diff") × IsComparison value asked
   IsTaskOf command (task.Account path asked) =
       (command ≡ codes "account") × (path.now ≡ given value (codes "db")) × IsAccount value asked
   IsTaskOf command (task.Work path (work.Run policy lines log)) =
       (command ≡ codes "run") × (value (codes "db") ≡ Some path.now) × IsRun value policy lines log
   IsTaskOf command (task.Work path (work.Import import)) =
       (command ≡ codes "import") × (path.now ≡ given value (codes "db")) × IsImport value import
+      × (is_set value (codes "dry-run") ≡ false)
+  IsTaskOf command (task.DryRun path import) =
+      (command ≡ codes "import") × (path.now ≡ given value (codes "db")) × IsImport value import
+      × (is_set value (codes "dry-run") ≡ true)
   IsTaskOf command (task.Work path work.Export) =
       (command ≡ codes "export") × (path.now ≡ given value (codes "db"))
   IsTaskOf command (task.Work path (work.Serve serve)) =

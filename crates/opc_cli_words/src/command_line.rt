@@ -20,7 +20,8 @@ ghost use Rattle.opc_cli_words.specs.CommandLine.{
 
 use crate::account_command::account_command;
 use crate::check_command::check_command;
-use crate::question_commands::{explain_command, who_command};
+use crate::diff_command::diff_command;
+use crate::question_commands::{explain_command, may_command, who_command};
 use crate::version::VERSION;
 use clap::{Arg, ArgAction, Command};
 use std::alloc::{AllocError, Global};
@@ -46,8 +47,10 @@ Decides from a written policy who may enter operator commands.
 Usage: opcmds COMMAND [OPTIONS]
 
 Ask a policy      who       who may enter a command
+                  may       what one user may do
                   explain   why one user may, or may not
                   check     what is wrong with it
+                  diff      what changes from one policy to another
 Run a room        run       answer a script, or a terminal (--now)
                   serve     answer over HTTP or a Unix socket
                   account   show the audit log
@@ -194,7 +197,7 @@ fn import_command<'a>(alloc: Global) -> Result<Command<'a>, AllocError>
         alloc,
         "import",
         "Loads a policy file into a database file, all its rows or none",
-        "opcmds import --db FILE --batch NUMBER [--console CONSOLE] [FILE]",
+        "opcmds import --db FILE --batch NUMBER [OPTIONS] [FILE]",
         "A batch that is kept with equal rows changes nothing, however often it is\n\
          sent. A policy file has at most 16,777,216 bytes.\n\
          \n\
@@ -217,6 +220,11 @@ fn import_command<'a>(alloc: Global) -> Result<Command<'a>, AllocError>
         "The console to import at, as the user on there;\n\
          without it this is the first policy, and no\n\
          batch is kept",
+    ))?
+    .arg(flag(
+        alloc,
+        "dry-run",
+        "Shows what would change, and imports nothing",
     ))?
     .arg(positional(alloc, "file", "FILE", POLICY_FILE))
 }
@@ -382,5 +390,7 @@ pub(crate) fn command_line<'a>(alloc: Global) -> Result<Command<'a>, AllocError>
         .subcommand(check_command(alloc)?)?
         .subcommand(account_command(alloc)?)?
         .subcommand(digest_command(alloc))?
-        .subcommand(commands_command(alloc))
+        .subcommand(commands_command(alloc))?
+        .subcommand(may_command(alloc)?)?
+        .subcommand(diff_command(alloc)?)
 }

@@ -5,6 +5,7 @@ ghost use Rattle.opc_cli_words.specs.Checks.{AreReadAs, IsReadAs};
 ghost use Rattle.opc_cli_words.specs.Options.{batch_of, batch_option, import_checks};
 ghost use Rattle.opc_cli_words.specs.Tasks.{IsTaskOf};
 
+use crate::flag::is_set;
 use crate::mistake::{Mistake, Opt};
 use crate::number::number_between;
 use crate::question::console_in;
@@ -36,5 +37,10 @@ pub(crate) fn import<'a>(chosen: &ArgMatches<'a>) -> Result<Task<'a>, Mistake>
         console,
         file: chosen.get_str("file"),
     };
-    Ok(Task::Work(database_in(chosen), Work::Import(import)))
+    let path = database_in(chosen);
+    if is_set(chosen, "dry-run") {
+        Ok(Task::DryRun(path, import))
+    } else {
+        Ok(Task::Work(path, Work::Import(import)))
+    }
 }

@@ -28,7 +28,8 @@ use opc_names::class::Class;
 use opc_names::level::Level;
 use opc_names::name::{ConsoleName, Resource, UserId};
 
-fn user_in(chosen: &ArgMatches<'_>) -> Result<UserId, Mistake>
+/// The user who is given.
+pub(crate) fn user_in(chosen: &ArgMatches<'_>) -> Result<UserId, Mistake>
     ensures { IsReadAs (λ user. user ≡ given (first_value (found_of chosen.now)) (codes "user"))
         (user_option (first_value (found_of chosen.now))) result }
 {

@@ -1,6 +1,13 @@
-//! The commands `opcmds explain` and `opcmds who`, as `clap` reads them.
+//! The commands `opcmds explain`, `opcmds who` and `opcmds may`, as `clap` reads them.
 ghost use Rattle.std.specs.Prelude.{IfOk, [], ◌∷◌, codes};
-ghost use Rattle.opc_cli_words.specs.CommandLine.{IsCommand, explain_options, needed, question_options, who_options};
+ghost use Rattle.opc_cli_words.specs.CommandLine.{
+  IsCommand,
+  explain_options,
+  may_options,
+  needed,
+  question_options,
+  who_options,
+};
 
 use crate::command_line::{
     DATABASE_FILE, POLICY_FILE, command, flag, needed, positional, preset, value,
@@ -119,6 +126,43 @@ pub(crate) fn who_command<'a>(alloc: Global) -> Result<Command<'a>, AllocError>
 {
     with_question(alloc, who_alone(alloc))?
         .arg(flag(alloc, "allowed", "Shows those alone who may"))?
+        .arg(value(alloc, "policy", "FILE", POLICY_FILE))?
+        .arg(value(alloc, "db", "FILE", DATABASE_FILE))?
+        .arg(positional(alloc, "file", "FILE", POLICY_FILE))
+}
+
+/// The command `may` before its options.
+fn may_alone<'a>(alloc: Global) -> Command<'a>
+    ensures { IsCommand result (codes "may") [] }
+{
+    command(
+        alloc,
+        "may",
+        "Says what a user may do, by a policy",
+        "opcmds may --user USER [OPTIONS] [FILE]",
+        "Shows where the user may log on, what each profile that decides lets the user\n\
+         enter, and what of the policy the user may change or see.\n\
+         \n\
+         Example: opcmds may --user ANNA policy.csv\n\
+         Status: 0 answered, 1 refused, 2 invalid arguments or policy file,\n\
+         \x20       3 out of memory or a failed device",
+    )
+}
+
+pub(crate) fn may_command<'a>(alloc: Global) -> Result<Command<'a>, AllocError>
+    ensures { IfOk result (λ built. IsCommand built (codes "may") may_options) }
+{
+    may_alone(alloc)
+        .arg(needed(alloc, "user", "USER", "The user who is asked about"))?
+        .arg(value(
+            alloc,
+            "console",
+            "CONSOLE",
+            "The one console at which the user acts; entries\n\
+             for it alone count there",
+        ))?
+        .arg(flag(alloc, "allowed", "Shows only what the user may"))?
+        .arg(flag(alloc, "json", "Answers in JSON, an object a line"))?
         .arg(value(alloc, "policy", "FILE", POLICY_FILE))?
         .arg(value(alloc, "db", "FILE", DATABASE_FILE))?
         .arg(positional(alloc, "file", "FILE", POLICY_FILE))

@@ -47,7 +47,7 @@ fn help_with(command: &str, words: &[String]) -> Option<&'static [u8]> {
     match command {
         "account" if has_time_before(words) => Some(TIME),
         "account" if has_other(words, "--limit", "-n") => Some(COUNT),
-        "check" | "explain" | "who" if has_other(words, "--file", "-f") => Some(FILE),
+        "check" | "explain" | "may" | "who" if has_other(words, "--file", "-f") => Some(FILE),
         _ if has_operand_apart(words) => Some(ONE_TEXT),
         // What `clap` reports says enough of any other arguments.
         _ => None,

@@ -24,7 +24,9 @@ use crate::account::account;
 use crate::check::check;
 use crate::command_line::command_line;
 use crate::command_question::command_question;
+use crate::diff::diff;
 use crate::import::import;
+use crate::may::may;
 use crate::mistake::{Mistake, print_mistake};
 use crate::question::access_question;
 use crate::run::run;
@@ -117,6 +119,8 @@ fn asked<'a>(command: &str, chosen: &ArgMatches<'a>) -> Result<Task<'a>, Mistake
         "account" => account(chosen),
         "digest" => Ok(Task::Digest),
         "commands" => Ok(Task::Commands),
+        "may" => may(chosen),
+        "diff" => Ok(diff(chosen)),
         // The command line has no other command.
         _ => Err(Mistake::NoCommand),
     }

@@ -13,4 +13,6 @@ returns c =
     let command_7 = one_command_more _ _ _ _ _ _ command_6 c.in_ok-check_command.ensures c.in_ok-subcommand-7.ensures in
     let command_8 = one_command_more _ _ _ _ _ _ command_7 c.in_ok-account_command.ensures c.in_ok-subcommand-8.ensures in
     let command_9 = one_command_more _ _ _ _ _ _ command_8 c.digest_command.ensures c.in_ok-subcommand-9.ensures in
-    IfOk-weaker c.subcommand-10.result _ _ (λ built. one_command_more _ built _ _ _ _ command_9 c.commands_command.ensures) c.subcommand-10.ensures
+    let command_10 = one_command_more _ _ _ _ _ _ command_9 c.commands_command.ensures c.in_ok-subcommand-10.ensures in
+    let command_11 = one_command_more _ _ _ _ _ _ command_10 c.in_ok-may_command.ensures c.in_ok-subcommand-11.ensures in
+    IfOk-weaker c.subcommand-12.result _ _ (λ built. one_command_more _ built _ _ _ _ command_11 c.in_ok-diff_command.ensures) c.subcommand-12.ensures

@@ -5,7 +5,7 @@ from random import Random
 from typing import Any, Callable, Iterable
 
 from . import account, counting, entering, exchange, files, machine, names, questions, random_lines, random_policies
-from . import random_requests, random_unread, scripts, world
+from . import random_requests, random_unread, scripts, trying, world
 from .files import Row
 from .machine import State
 from .random_policies import state_of
@@ -165,7 +165,7 @@ def check(chance: Random) -> list[Step]:
     while one_in(chance, 2) and len(lines) > 2:
         del lines[chance.randrange(1, len(lines))]
     # (there is no note N07)
-    noted = [number for number in range(1, 20) if number != 7]
+    noted = [number for number in range(1, 21) if number != 7]
     allowed = [f"N{number:02}" for number in noted if one_in(chance, 3)] if one_in(chance, 4) else []
     return [Check(one_in(chance, 3), allowed, random_policies.joined(chance, lines), any_source(chance))]
 
@@ -398,5 +398,5 @@ def first_lines(chance: Random) -> list[str]:
 PARTS = {
     "explain": explain, "who": who, "enter": entering.cases, "check": check, "lines": lines, "scripts": scripts_of,
     "account": accounts, "stored": stored, "digest": digests, "displays": displays, "requests": requests,
-    "imports": imports,
+    "imports": imports, "may": trying.mays, "diff": trying.diffs, "dry-run": trying.dry_runs,
 }

@@ -45,7 +45,8 @@ OTHERS = {
     "who": "E01 E02 E03 E04 E05 E06 E10 answered words", "account": "rows words", "digest": "done",
     "check": "good Header Columns Kind Class Name Id Value Owner Flags Digest When Restricted E52 E53 N01 N02 N03 N04"
     " N05 N06 N08 N09 N10 N11 N12 N13 N14 N15 N16 N17 N18 N19 N20",
-    "HTTP": "H400 H403 H404 H405 H413",
+    "HTTP": "H400 H403 H404 H405 H413", "may": "E10 E53 words", "diff": "E52 E53",
+    "dry run": "E10 E12 E13 E50 E52 E53 E56 E57 again",
 }
 BRANCHES = {
     "level by": (
@@ -67,6 +68,13 @@ BRANCHES = {
     "over a file": ("a STC on the board", "a TSU on the board"), "account": ("no row",),
     "digest": ("no password",),
     "acting": ("the user who is on", "the console's own user", "nobody at AUTO"),
+    "may": (
+        "ALLOWED", "WARNED", "DENIED", "UNDECIDED", "NOLOGON", "HIDDEN", "AUTH", "AUTO", "NODIGEST", "NOPROFILE", "OWN",
+        "GROUP", "EVERYONE", "UACC", "RESTRICTED", "OWN AT", "GROUP AT", "EVERYONE AT", "SPECIAL", "AUDITOR", "OWNER",
+        "as JSON",
+    ),
+    "diff": ("a row, gone", "a row, new", "a row, changed", "a logon", "a console", "as JSON"),
+    "dry run": ("first policy", "would be kept"),
 }
 
 

@@ -2,7 +2,7 @@
 import json
 from typing import Any, Iterator
 
-from . import asked, counting, files, names
+from . import counting, files, forms, names
 
 Fields = dict[str, Any]  # a row by its columns, with its number
 WITHOUT_PROFILE = {
@@ -69,9 +69,9 @@ def of_profile(known: Known, row: Fields) -> Iterator[tuple[str, str]]:
         yield "N01", f"{profile} has WARNING"
     if names.is_at_least(row["value"], "UPDATE"):
         yield "N02", f"{profile} gives everyone {row['value']}"
-    if row["class"] == "OPERCMDS" and not asked.is_asked(row["name"]):
+    if row["class"] == "OPERCMDS" and not forms.is_asked(row["name"]):
         yield "N17", f"{profile} covers no resource of any command"
-    elif row["class"] == "OPERCMDS" and not asked.decides(row["name"], known.before(row["name"])):
+    elif row["class"] == "OPERCMDS" and not forms.decides(row["name"], known.before(row["name"])):
         yield "N20", f"{profile} never decides: others come before it"
 
 

@@ -1,5 +1,6 @@
 """The worst inputs: those that a hostile peer, or an awkward policy, can make as large as the limits allow. Each has a
 size, and the same of a tenth of it is what its cost is relative to."""
+import itertools
 import os
 import sys
 import tempfile
@@ -8,6 +9,7 @@ from typing import Callable, NamedTuple
 from lib import clients, requests
 from lib.bench import mixture, timing
 from lib.bench.timing import Program, Took, median
+from lib.model.names import NAME_CHARACTERS
 from lib.places import HEADER, POLICY
 from lib.service import Service
 
@@ -33,6 +35,25 @@ def policy(rows: list[str]) -> str:
 def profiles(pattern: str) -> Callable[[int], str]:
     """A policy with so many profiles, each with its number at the end of the pattern."""
     return lambda size: policy([f"profile,OPERCMDS,{pattern}{at:05},,READ,SECADM,," for at in range(size)])
+
+
+def named(patterns: list[str]) -> Callable[[int], str]:
+    """A policy with the first of these profiles of names of jobs, and with one that covers what they leave."""
+    return lambda size: policy([
+        f"profile,OPERCMDS,MVS.CANCEL.JOB.{pattern},,READ,SECADM,," for pattern in [*patterns[:size], "*"]
+    ])
+
+
+def cubes() -> list[str]:
+    """Names of eight characters of which two places are given, by all two characters but the last ones: at the edge of
+    covering all names of that length."""
+    pairs = itertools.product(sorted(NAME_CHARACTERS), repeat=2)
+    values = [pair for pair in pairs if pair != (max(NAME_CHARACTERS),) * 2]
+    places = itertools.combinations(range(8), 2)
+    return [
+        "".join({one: first, other: second}.get(at, "%") for at in range(8))
+        for one, other in places for first, second in values
+    ]
 
 
 def entries(size: int) -> str:
@@ -70,6 +91,14 @@ def same_keys(size: int) -> str:
     return "{" + ",".join('"text":"D U"' for _ in range(size)) + "}"
 
 
+# what `check`, `may` and `diff` find hardest: the titles, how many, and the patterns of names of jobs
+TWO = ["".join(pair) + "*" for pair in itertools.product(sorted(NAME_CHARACTERS), repeat=2)]
+HARDEST = {
+    "names of jobs": (5_000, [f"J{at:05}" for at in range(5_000)]),
+    "beginnings of two characters": (len(TWO), TWO),
+    "pairs of places": (8_264, cubes()),
+}
+
 INPUTS = {
     # what explain reads
     "patterns of **": Input("explain", 5_000, profiles("MVS.**.**.**.**.**.**.**.**.P")),
@@ -99,6 +128,12 @@ INPUTS = {
     "an import of new groups": Input("import", 2_000, new_groups),
     "the same import again": Input("again", 2_000, new_groups),
     "a listing of the account": Input("account", 1_000, lambda size: str(size or 1)),
+    # resources between patterns
+    "check: patterns of ** and a name": Input("check", 5_000, profiles("MVS.**.J")),
+    **{
+        f"{work}: {title}": Input(work, size, named(patterns))
+        for work in ("check", "may", "diff") for title, (size, patterns) in HARDEST.items()
+    },
 }
 
 
@@ -109,6 +144,9 @@ class Inputs(Program):
         super().__init__(folder, runs)
         self.works: dict[str, Callable[[str], Took]] = {
             "explain": lambda text: self.given(["explain", *QUESTION], text),
+            "may": lambda text: self.given(["may", "--user", "ANNA"], text),
+            "diff": self.compared,
+            "check": lambda text: self.given(["check"], text),
             "script": lambda text: self.given(["run", "--policy", POLICY], text),
             "commands": lambda text: self.ours(["--policy", self.written(text)], COMMANDS),
             "first policy": lambda text: self.ours(["--policy", self.written(text)], ""),
@@ -131,6 +169,13 @@ class Inputs(Program):
         with open(f"{self.folder}/policy.csv", "w", encoding="utf-8") as file:
             file.write(text)
         return file.name
+
+    def compared(self, text: str) -> Took:
+        """The comparison with the same policy and an entry more."""
+        new = f"{self.folder}/new.csv"
+        with open(new, "w", encoding="utf-8") as file:
+            file.write(f"{text}permit,OPERCMDS,MVS.**,CARL,READ,,,\n")
+        return self.given(["diff", self.written(text), new], "")
 
     def exported(self, text: str) -> Took:
         """An export of a file with this policy."""

@@ -24,7 +24,7 @@ from .readers import readers
 from .room import SECONDS, Ran, Room, asked
 
 HELPS = ("--help", "explain --help", "help explain", "run --help", "serve --help", "who --help", "check --help",
-         "account --help", "digest --help", "commands --help")
+         "account --help", "digest --help", "commands --help", "may --help", "diff --help")
 # requests that leave rows in every table, with the batch
 SCRIPT = """\
 1 * JOBIN PAY JOB
@@ -122,7 +122,11 @@ def held(room: Room) -> None:
         # the byte that SQLite locks to write
         fcntl.lockf(file, fcntl.LOCK_EX, 512, 1 << 30)
         ran = room.run(["run", "--db", path])
-    ended(room, "a database that is in use", ran, 3, f"E91 Store\nopcmds: database {path}: in use by another program\n")
+        questions = [["may", "--user", "ANNA", "--db", path], ["diff", f"db:{path}", POLICY]]
+        asked = [room.run(words) for words in questions]
+    told = f"E91 Store\nopcmds: database {path}: in use by another program\n"
+    for title, ran in zip(["", ", by may", ", by diff"], [ran, *asked]):
+        ended(room, f"a database that is in use{title}", ran, 3, told)
     with socket.socket() as holder:
         holder.bind(("127.0.0.1", 0))
         holder.listen()
@@ -402,7 +406,9 @@ def typed_at_terminal(words: list[str], line: bytes) -> bytes:
 PARTS: dict[str, Callable[[Room], None]] = {
     "explain": table("explain"),
     "who": table("who"),
+    "may": table("may"),
     "check": table("check"),
+    "diff": table("diff"),
     "sources": table("sources"),
     "account": account,
     "digest": table("digest"),
@@ -415,6 +421,7 @@ PARTS: dict[str, Callable[[Room], None]] = {
     "now": now,
     "files": table("files"),
     "imports": table("imports"),
+    "dryrun": table("dryrun"),
     "databases": table("databases"),
     "full": full,
     "limited": limited,

@@ -7,7 +7,7 @@ _opcmds() {
         return
     fi
     if ((COMP_CWORD == 1)) || [[ ${COMP_WORDS[1]} == help && $COMP_CWORD == 2 ]]; then
-        mapfile -t COMPREPLY < <(compgen -W 'who explain check run serve account import export digest commands help' -- "$word")
+        mapfile -t COMPREPLY < <(compgen -W 'who may explain check diff run serve account import export digest commands help' -- "$word")
         return
     fi
     if [[ $before == = ]]; then
@@ -17,12 +17,14 @@ _opcmds() {
     fi
     case ${COMP_WORDS[1]} in
         who) options='--command --as --resource --level --class --console --json --allowed --policy --db --help' ;;
+        may) options='--user --console --allowed --json --policy --db --help' ;;
         explain) options='--user --command --as --resource --level --class --console --json --why --policy --db --help' ;;
         check) options='--policy --db --allow --json --help' ;;
+        diff) options='--json --help' ;;
         run) options='--db --policy --now --console --log --help' ;;
         serve) options='--db --port --socket --socket-mode --strict --count --timeout --log --policies --help' ;;
         account) options='--db --from --last --count --since --until --user --console --code --json --help' ;;
-        import) options='--db --batch --console --help' ;;
+        import) options='--db --batch --console --dry-run --help' ;;
         export) options='--db --help' ;;
         digest) options=--help ;;
         commands) options=--help ;;
@@ -33,6 +35,8 @@ _opcmds() {
         "who --class") mapfile -t COMPREPLY < <(compgen -W 'OPERCMDS CONSOLE' -- "$word"); return ;;
         "who --policy" | "who --db") compopt -o filenames; mapfile -t COMPREPLY < <(compgen -f -- "$word"); return ;;
         "who --command" | "who --as" | "who --resource" | "who --console") return ;;
+        "may --policy" | "may --db") compopt -o filenames; mapfile -t COMPREPLY < <(compgen -f -- "$word"); return ;;
+        "may --user" | "may --console") return ;;
         "explain --level") mapfile -t COMPREPLY < <(compgen -W 'NONE READ UPDATE CONTROL ALTER' -- "$word"); return ;;
         "explain --class") mapfile -t COMPREPLY < <(compgen -W 'OPERCMDS CONSOLE' -- "$word"); return ;;
         "explain --policy" | "explain --db") compopt -o filenames; mapfile -t COMPREPLY < <(compgen -f -- "$word"); return ;;
@@ -52,7 +56,7 @@ _opcmds() {
         "export --db") compopt -o filenames; mapfile -t COMPREPLY < <(compgen -f -- "$word"); return ;;
     esac
     case ${COMP_WORDS[1]} in
-        who | explain | check | run | import) [[ $word == -* ]] || { compopt -o filenames; mapfile -t COMPREPLY < <(compgen -f -- "$word"); return; } ;;
+        who | may | explain | check | run | import) [[ $word == -* ]] || { compopt -o filenames; mapfile -t COMPREPLY < <(compgen -f -- "$word"); return; } ;;
     esac
     # an option that was given is not given again
     for given in "${COMP_WORDS[@]:2:COMP_CWORD - 2}"; do

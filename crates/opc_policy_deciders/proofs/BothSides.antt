@@ -1,6 +1,35 @@
 -- What one profile of a policy and one of another decide both.
-use Rattle.std.proofs.Common.{◌≡◌, ◌≤◌, ◌<◌, ◌∙◌, ap, ap₂, sym, refl, subst, ℕ, zero, suc, Bool, true, false, ◌&&◌, ◌||◌, List, [], ◌∷◌, ◌++◌, append-nil, Option, Some, None, Result, Ok, Err, All, take, drop, get_or, length, arith}
-use Rattle.std.specs.Prelude.{IfOk, ◌↔◌}
+use Rattle.std.proofs.Common.{
+  ◌≡◌,
+  ◌∙◌,
+  ap,
+  ap₂,
+  sym,
+  refl,
+  subst,
+  ℕ,
+  zero,
+  suc,
+  Bool,
+  true,
+  false,
+  ◌&&◌,
+  ◌||◌,
+  List,
+  [],
+  ◌∷◌,
+  ◌++◌,
+  append-nil,
+  Option,
+  Some,
+  None,
+  Result,
+  All,
+  take,
+  drop,
+  arith,
+}
+use Rattle.std.specs.Prelude.{IfOk, is_none, ◌↔◌}
 use Rattle.std.specs.Cmp.Lexicographic.{pointwise}
 use Rattle.std.specs.List.{list_all, list_any, slice_get}
 use Rattle.std.specs.Str.{bytes_eq}
@@ -9,13 +38,12 @@ use Rattle.opc_names.specs.Names.{IsPattern}
 use Rattle.opc_names.specs.Patterns.{covers_text}
 use Rattle.opc_policy_members.specs.declared.policy.Policy.{Policy}
 use Rattle.opc_policy_deciders.specs.Between.{IsBetween}
-use Rattle.opc_policy_deciders.specs.Decided.{AddsShortest, ArePatternsOf, AreShortest, IsDecided}
+use Rattle.opc_policy_deciders.specs.Decided.{ArePatternsOf, AreShortest, IsDecided}
 use Rattle.opc_policy_deciders.specs.Forms.{AskedForm, forms}
-use Rattle.opc_policy_deciders.specs.Near.{AreNear}
 use Rattle.opc_policy_deciders.specs.Pairs.{AreNearAll, CoverAlike, IsDecidedByBoth}
 use Rattle.opc_policy_deciders.proofs.Between.{both_true, none_true}
 use Rattle.opc_policy_deciders.proofs.Finding.{all_before, decided_between, then_ok}
-use Rattle.opc_policy_deciders.proofs.Listing.{all_added, all_same}
+use Rattle.opc_policy_deciders.proofs.Listing.{all_same}
 
 all_append : (test : List ℕ → Bool) (xs ys : List (List ℕ)) → list_all test (xs ++ ys) ≡ (list_all test xs && list_all test ys)
 all_append test [] ys = refl
@@ -25,7 +53,7 @@ all_append test (x ∷ xs) ys = ap (λ b. test x && b) (all_append test xs ys) �
     grouped true b c = refl
     grouped false b c = refl
 
-any_append : (test : List ℕ → Bool) (xs ys : List (List ℕ)) → list_any test (xs ++ ys) ≡ (list_any test xs || list_any test ys)
+pub any_append : (test : List ℕ → Bool) (xs ys : List (List ℕ)) → list_any test (xs ++ ys) ≡ (list_any test xs || list_any test ys)
 any_append test [] ys = refl
 any_append test (x ∷ xs) ys = ap (λ b. test x || b) (any_append test xs ys) ∙ grouped (test x) (list_any test xs) (list_any test ys)
   where
@@ -72,29 +100,32 @@ all_joined P (x ∷ xs) ys first second (suc k) d less =
 
 -- ---- those that are near
 
-pub near_one : (rest these those : List (List ℕ)) (p : List ℕ) → 1 ≤ length rest → p ≡ get_or rest 0 p → AreNear p these those
-    → AreNearAll (take 1 rest) these those
-near_one [] these those p some is near resource covers = absurd (omega (arith, some))
-near_one (q ∷ rest) these those p some is near resource covers =
-    near resource (ap (λ x. covers_text x resource) is ∙ (both_true (covers_text q resource) true covers).0)
-
-pub near_none : (rest those : List (List ℕ)) → length rest < 1 → AreNearAll (take 1 rest) those those
-near_none rest those none resource covers = refl
-
-both_near : (include own own' near near' before before' : List (List ℕ)) → CoverAlike include (own ++ own')
-    → AreNearAll own near before → AreNearAll own' near' before' → AreNearAll include (near ++ near') (before ++ before')
-both_near include own own' near near' before before' alike one other resource covered =
-    let covers : List ℕ → Bool = λ (p : List ℕ). covers_text p resource in
-    let both = both_true (list_all covers own) (list_all covers own') (sym (all_append covers own own') ∙ sym (alike resource) ∙ covered) in
-    any_append covers near near' ∙ ap₂ (λ a b. a || b) (one resource both.0) (other resource both.1) ∙ sym (any_append covers before before')
-
-pub near_all_enough : (include near exclude : List (List ℕ)) (all : List AskedForm) (list : List (Option (List ℕ)))
+near_all_enough : (include near exclude : List (List ℕ)) (all : List AskedForm) (list : List (Option (List ℕ)))
     → AreNearAll include near exclude → AreShortest (IsBetween include near) all list → AreShortest (IsBetween include exclude) all list
 near_all_enough include near exclude all list as_many found =
     all_same (IsBetween include near) (IsBetween include exclude) (λ form r. (
       λ b. record { of_form = b.of_form; covered = b.covered; uncovered = sym (as_many r b.covered) ∙ b.uncovered },
       λ b. record { of_form = b.of_form; covered = b.covered; uncovered = as_many r b.covered ∙ b.uncovered },
     )) all list found
+
+-- nothing is between, if nothing is covered by all
+pub none_with_more : (include exclude : List (List ℕ)) (all : List AskedForm) (list : List (Option (List ℕ)))
+    → AreShortest (IsBetween include []) all list → list_all is_none list ≡ true → AreShortest (IsBetween include exclude) all list
+none_with_more include exclude [] [] are none = are
+none_with_more include exclude [] (found ∷ list) are none = are
+none_with_more include exclude (form ∷ all) [] are none = are
+none_with_more include exclude (form ∷ all) (Some found ∷ list) are none = cc
+none_with_more include exclude (form ∷ all) (None ∷ list) are none = (
+  λ text b. are.0 text (record { of_form = b.of_form; covered = b.covered; uncovered = refl }),
+  none_with_more include exclude all list are.1 none,
+)
+
+pub between_near : {T E : Type 0} (list : T → List (Option (List ℕ))) (include exclude those : List (List ℕ)) (result : Result T E)
+    → AreNearAll include exclude those → IfOk result (λ v. AreShortest (IsBetween include exclude) forms (list v))
+    → IfOk result (λ v. AreShortest (IsBetween include those) forms (list v))
+between_near list include exclude those result as_many found =
+    then_ok result (λ v. AreShortest (IsBetween include exclude) forms (list v)) (λ v. AreShortest (IsBetween include those) forms (list v)) found
+    (λ v shortest. near_all_enough include exclude those forms (list v) as_many shortest)
 
 -- ---- valid ones
 
@@ -166,23 +197,15 @@ both_between one other ps qs own before own' before' include exclude i j are be 
     second = decided_between other qs own' before' j be is_own' is_before' form r
 
 pub decided_by_both : {T E : Type 0} (list : T → List (Option (List ℕ))) (one other : Policy)
-    (ps qs before rest own before' rest' own' include near near' exclude : List (List ℕ)) (i j : ℕ) (result : Result T E)
+    (ps qs before rest own before' rest' own' include : List (List ℕ)) (i j : ℕ) (result : Result T E)
     → ArePatternsOf one ps → ArePatternsOf other qs → before ≡ take i ps → rest ≡ drop i ps
     → own ≡ take 1 rest → before' ≡ take j qs → rest' ≡ drop j qs → own' ≡ take 1 rest' → CoverAlike include (own ++ own')
-    → AreNearAll (take 1 rest) near before → AreNearAll (take 1 rest') near' before' → exclude ≡ near ++ near'
-    → IfOk result (λ v. AreShortest (IsBetween include exclude) forms (list v))
+    → IfOk result (λ v. AreShortest (IsBetween include (before ++ before')) forms (list v))
     → IfOk result (λ v. AreShortest (IsDecidedByBoth one other (slice_get ps i) (slice_get qs j)) forms (list v))
-decided_by_both list one other ps qs before rest own before' rest' own' include near near' exclude i j result are be front back first front' back' first'
-    alike near_those near_those' is found =
-    then_ok result (λ v. AreShortest (IsBetween include exclude) forms (list v))
+decided_by_both list one other ps qs before rest own before' rest' own' include i j result are be front back first front' back' first'
+    alike found =
+    then_ok result (λ v. AreShortest (IsBetween include (before ++ before')) forms (list v))
     (λ v. AreShortest (IsDecidedByBoth one other (slice_get ps i) (slice_get qs j)) forms (list v)) found
-    (λ v shortest. all_same (IsBetween include (before ++ before')) (IsDecidedByBoth one other (slice_get ps i) (slice_get qs j))
-    (both_between one other ps qs own before own' before' include (before ++ before') i j are be (first ∙ ap (take 1) back) front (first' ∙ ap (take 1) back')
-    front' alike refl) forms (list v)
-    (near_all_enough include (near ++ near') (before ++ before') forms (list v) as_many
-    (subst (λ (xs : List (List ℕ)). AreShortest (IsBetween include xs) forms (list v)) is shortest)))
-  where
-    as_many : AreNearAll include (near ++ near') (before ++ before')
-    as_many =
-        both_near include own own' near near' before before' alike (subst (λ xs. AreNearAll xs near before) (sym first) near_those)
-        (subst (λ xs. AreNearAll xs near' before') (sym first') near_those')
+    (λ v. all_same (IsBetween include (before ++ before')) (IsDecidedByBoth one other (slice_get ps i) (slice_get qs j))
+    (both_between one other ps qs own before own' before' include (before ++ before') i j are be (first ∙ ap (take 1) back) front
+    (first' ∙ ap (take 1) back') front' alike refl) forms (list v))

@@ -1,5 +1,32 @@
 -- Patterns that cover one resource have heads of which one begins with the other.
-use Rattle.std.proofs.Common.{◌≡◌, inl, inr, ◌≤◌, ◌<◌, ◌+◌, ◌∙◌, ap, sym, refl, subst, ℕ, Bool, true, false, ◌||◌, List, [], ◌∷◌, ◌++◌, Option, All, get_or, length, take, arith}
+use Rattle.std.proofs.Common.{
+  ◌≡◌,
+  inl,
+  inr,
+  ◌≤◌,
+  ◌<◌,
+  ◌+◌,
+  ◌∙◌,
+  ap,
+  sym,
+  refl,
+  subst,
+  ℕ,
+  Bool,
+  true,
+  false,
+  ◌||◌,
+  List,
+  [],
+  ◌∷◌,
+  ◌++◌,
+  Option,
+  All,
+  get_or,
+  length,
+  take,
+  arith,
+}
 use Rattle.std.specs.List.{list_any}
 use Rattle.std.proofs.lemmas.List.{take_more}
 use Rattle.opc_names.specs.Names.{IsPattern}

@@ -1,5 +1,38 @@
 -- The profile at a place decides what its pattern covers and none before it does.
-use Rattle.std.proofs.Common.{◌≡◌, ◌≤◌, ◌∙◌, ap, sym, refl, ℕ, zero, suc, ◌<◌, Bool, true, false, ◌&&◌, ◌||◌, cond, List, [], ◌∷◌, Option, Some, Result, Ok, Err, All, drop, get_or, length, map, take, subst, arith}
+use Rattle.std.proofs.Common.{
+  ◌≡◌,
+  ◌≤◌,
+  ◌∙◌,
+  ap,
+  sym,
+  refl,
+  ℕ,
+  zero,
+  suc,
+  ◌<◌,
+  Bool,
+  true,
+  false,
+  ◌&&◌,
+  ◌||◌,
+  cond,
+  List,
+  [],
+  ◌∷◌,
+  Option,
+  Some,
+  Result,
+  Ok,
+  Err,
+  All,
+  drop,
+  get_or,
+  length,
+  map,
+  take,
+  subst,
+  arith,
+}
 use Rattle.std.specs.Prelude.{find, option_map, if◌then◌else◌, IfOk, ◌↔◌}
 use Rattle.std.specs.Cmp.Lexicographic.{nat_list_cmp_total, slice_cmp}
 use Rattle.std.specs.List.{AllPairs, list_all, list_any, slice_get}

@@ -1,5 +1,28 @@
 -- What is found form by form.
-use Rattle.std.proofs.Common.{◌≡◌, ◌≤◌, ◌<◌, ◌∙◌, ap, sym, ℕ, List, [], ◌∷◌, ◌++◌, append-nil, append_assoc, Option, Some, None, drop, get_or, length, map, subst, arith}
+use Rattle.std.proofs.Common.{
+  ◌≡◌,
+  ◌≤◌,
+  ◌<◌,
+  ◌∙◌,
+  ap,
+  sym,
+  ℕ,
+  List,
+  [],
+  ◌∷◌,
+  ◌++◌,
+  append-nil,
+  append_assoc,
+  Option,
+  Some,
+  None,
+  drop,
+  get_or,
+  length,
+  map,
+  subst,
+  arith,
+}
 use Rattle.std.specs.Prelude.{◌↔◌}
 use Rattle.opc_policy_deciders.specs.Decided.{AddsShortest, AreShortest, IsShortest}
 use Rattle.opc_policy_witness.specs.Forms.{IsForm}

@@ -41,7 +41,7 @@ use Rattle.opc_names.proofs.Computed.{text_computes}
 use Rattle.opc_policy_witness.proofs.SortKeys.{in_range, less_is}
 use Rattle.opc_policy_deciders.specs.Near.{AreNear, ComeBefore, IsEarlier}
 
-abbrev is_below : List ℕ → List ℕ → Bool
+abbrev pub is_below : List ℕ → List ℕ → Bool
 is_below h q = is_lt (slice_cmp nat_cmp (sort_key q) h)
 
 lt_is : (r : Ordering) → r ≡ Less → is_lt r ≡ true

@@ -18,7 +18,8 @@ place_of : (test : List ℕ → Bool) (ps : List (List ℕ)) → (place : ℕ) �
 place_of test [] = (zero, omega arith, refl)
 place_of test (p ∷ ps) = go (test p) refl (place_of test ps)
   where
-    go : (b : Bool) → test p ≡ b → ((place : ℕ) × (place ≤ length ps) × (find test ps ≡ slice_get ps place)) → (place : ℕ) × (place ≤ length (p ∷ ps)) × (cond b (Some p) (find test ps) ≡ slice_get (p ∷ ps) place)
+    go : (b : Bool) → test p ≡ b → ((place : ℕ) × (place ≤ length ps) × (find test ps ≡ slice_get ps place))
+        → (place : ℕ) × (place ≤ length (p ∷ ps)) × (cond b (Some p) (find test ps) ≡ slice_get (p ∷ ps) place)
     go true is more = (zero, omega arith, refl)
     go false is more = (suc more.0, omega (arith, more.1), more.2)
 

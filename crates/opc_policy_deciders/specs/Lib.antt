@@ -5,3 +5,4 @@ pub mod Kinds
 pub mod Laws
 pub mod Near
 pub mod Pairs
+pub mod Places

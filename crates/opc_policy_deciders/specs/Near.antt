@@ -1,5 +1,5 @@
 -- Of the patterns that are excluded, those that count.
-use Rattle.std.specs.Prelude.{◌≡◌, ◌≤◌, ℕ, All, true, List, length, slice_index_or}
+use Rattle.std.specs.Prelude.{◌≡◌, ℕ, All, true, List}
 use Rattle.std.specs.List.{AllPairs, list_any}
 use Rattle.std.specs.Ordering.{is_lt}
 use Rattle.opc_names.specs.Patterns.{CoversText, covers_text}
@@ -12,10 +12,6 @@ IsEarlier p q = is_lt (pattern_cmp p q) ≡ true
 pub record ComeBefore (list : List (List ℕ)) (pattern : List ℕ) : Type 0 where
   pub in_order : AllPairs IsEarlier list
   pub before : All (λ q. IsEarlier q pattern) list
-
--- and so before the first of some others, if there is one
-abbrev pub ComeBeforeFirst : (list rest : List (List ℕ)) → Type 0
-ComeBeforeFirst list rest = (first : List ℕ) → 1 ≤ length rest → first ≡ slice_index_or rest 0 first → ComeBefore list first
 
 -- no resource is covered by both
 abbrev pub NoneInCommon : (p q : List ℕ) → Type 0

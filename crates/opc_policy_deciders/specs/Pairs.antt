@@ -1,5 +1,5 @@
 -- Which resources are decided by one profile of a policy and by one of another, form by form.
-use Rattle.std.specs.Prelude.{◌≡◌, ℕ, Bool, true, List, Option}
+use Rattle.std.specs.Prelude.{◌≡◌, ◌++◌, ℕ, Bool, true, List, Option}
 use Rattle.std.specs.List.{list_all, list_any}
 use Rattle.std.specs.Str.{bytes_eq}
 use Rattle.opc_names.specs.Names.{qualifiers}
@@ -20,6 +20,19 @@ pub record IsDecidedByBoth (one other : Policy) (p q : Option (List ℕ)) (form 
 abbrev pub AreNearAll : (include these those : List (List ℕ)) → Type 0
 AreNearAll include these those =
     CoverAsMany (λ resource. list_all (λ (p : List ℕ). covers_text p resource) include ≡ true) these those
+
+-- a resource begins with a text
+abbrev pub BeginsWith : (text resource : List ℕ) → Type 0
+BeginsWith text resource = (rest : List ℕ) × (resource ≡ text ++ rest)
+
+-- all does that these patterns all cover
+abbrev pub BeginAll : (include : List (List ℕ)) → (text : List ℕ) → Type 0
+BeginAll include text = (resource : List ℕ) → list_all (λ (p : List ℕ). covers_text p resource) include ≡ true
+    → BeginsWith text resource
+
+-- of resources that begin with a text, some patterns cover as many as others
+abbrev pub AreNearText : (text : List ℕ) → (these those : List (List ℕ)) → Type 0
+AreNearText text these those = CoverAsMany (BeginsWith text) these those
 
 -- these patterns all cover what those all cover
 abbrev pub CoverAlike : (these those : List (List ℕ)) → Type 0

@@ -1,6 +1,9 @@
 //! Of two places, whether one resource may be decided at both: most pairs are refused at once.
 ghost use Rattle.std.specs.Prelude.{◌≡◌, ℕ, All, IfOk, List, Some, false, map, true, unwrap_or};
+ghost use Rattle.std.specs.BTreeSet.{contains};
+ghost use Rattle.std.specs.Cmp.Lexicographic.{slice_cmp};
 ghost use Rattle.std.specs.List.{slice_get};
+ghost use Rattle.std.specs.Ordering.{nat_cmp};
 ghost use Rattle.opc_names.specs.Names.{IsPattern};
 ghost use Rattle.opc_policy_deciders.specs.Decided.{ArePatternsOf};
 ghost use Rattle.opc_policy_members.specs.declared.policy.Policy.{Policy as ThePolicy};
@@ -9,12 +12,17 @@ ghost use Rattle.opc_policy_deciders.specs.Pairs.{NoneDecidedByBoth, is_among};
 use crate::near::may_meet;
 use opc_names::name::Pattern;
 use std::alloc::{AllocError, Global};
+use std::collections::BTreeSet;
 
-/// Whether a pattern is among others.
-fn is_among(others: &[Pattern], pattern: &Pattern) -> bool
-    ensures { result ≡ is_among others.now pattern.now }
+/// Some patterns, to be looked up.
+fn set_of(alloc: Global, patterns: &[Pattern]) -> Result<BTreeSet<Pattern>, AllocError>
+    ensures { IfOk result (λ set. (p : List ℕ) → contains (slice_cmp nat_cmp) set p ≡ is_among patterns.now p) }
 {
-    others.iter().any(|other| pattern == other)
+    let mut set = BTreeSet::new(alloc);
+    for pattern in patterns {
+        set.insert(*pattern)?;
+    }
+    Ok(set)
 }
 
 /// For each of some patterns, whether it is among others.
@@ -25,9 +33,10 @@ pub fn all_among(
 ) -> Result<Vec<bool>, AllocError>
     ensures { IfOk result (λ list. list.items ≡ map (is_among others.now) patterns.now) }
 {
+    let set = set_of(alloc, others)?;
     let mut list = Vec::new(alloc);
     for pattern in patterns {
-        list.push(is_among(others, pattern))?;
+        list.push(set.contains(pattern))?;
     }
     Ok(list)
 }
@@ -51,7 +60,7 @@ fn may_both(pattern: &Pattern, other: &Pattern, stands: bool, other_stands: bool
 }
 
 /// Whether the pattern at a place is on the other side, too; the end is on both.
-fn stands_at(stand: &[bool], at: usize) -> bool
+pub(crate) fn stands_at(stand: &[bool], at: usize) -> bool
     ensures { result ≡ unwrap_or (slice_get stand.now at) true }
 {
     match stand.get(at) {
@@ -61,7 +70,7 @@ fn stands_at(stand: &[bool], at: usize) -> bool
 }
 
 /// The pattern at a place.
-fn pattern_at(patterns: &[Pattern], at: usize) -> Option<Pattern>
+pub(crate) fn pattern_at(patterns: &[Pattern], at: usize) -> Option<Pattern>
     ensures { result ≡ slice_get patterns.now at }
 {
     match patterns.get(at) {

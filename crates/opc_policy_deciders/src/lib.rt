@@ -7,4 +7,6 @@ pub mod form;
 pub mod kind;
 pub mod laws;
 mod near;
+mod obstacle;
 pub mod pairs;
+pub mod places;

@@ -21,7 +21,8 @@ pub(crate) fn may_meet(pattern: &Pattern, other: &Pattern) -> bool
     other_head.starts_with(head)
 }
 
-fn is_below(pattern: &Pattern, head: &[u8]) -> bool
+/// Whether the sort key of a pattern is below another, or below a head.
+pub(crate) fn is_below(pattern: &Pattern, head: &[u8]) -> bool
     ensures { result ≡ is_lt (slice_cmp nat_cmp (sort_key pattern.now) head.now) }
 {
     let key = pattern.sort_key();

@@ -19,12 +19,12 @@ decided_by-requires-clause-order c =
 
 pub returns-in_default : goal.returns-in_default
 returns-in_default c =
-    decided_by_none (λ (v : Vec (Option (List ℕ)) Global). v.items) c.args.policy.now c.args.patterns.now c.split_at.result.0.now c.split_at.result.1.now c.args.at
-    c.between_all.result c.requires.all c.split_at.ensures.front c.split_at.ensures.back c.in_default.len_below
+    decided_by_none (λ (v : Vec (Option (List ℕ)) Global). v.items) c.args.policy.now c.args.patterns.now c.split_at.result.0.now c.split_at.result.1.now
+    c.args.at c.between_all.result c.requires.all c.split_at.ensures.front c.split_at.ensures.back c.in_default.len_below
     c.between_all.ensures
 
 pub returns : goal.returns
 returns c =
-    decided_by_one (λ (v : Vec (Option (List ℕ)) Global). v.items) c.args.policy.now c.args.patterns.now c.split_at.result.0.now c.split_at.result.1.now c.args.at
-    c.decided_by.result c.requires.all c.split_at.ensures.front c.split_at.ensures.back c.pattern-item.result
+    decided_by_one (λ (v : Vec (Option (List ℕ)) Global). v.items) c.args.policy.now c.args.patterns.now c.split_at.result.0.now c.split_at.result.1.now
+    c.args.at c.decided_by.result c.requires.all c.split_at.ensures.front c.split_at.ensures.back c.pattern-item.result
     c.in-len1-up.len_at_least c.pattern-item.is c.decided_by.ensures

@@ -11,7 +11,8 @@ use Rattle.opc_policy_deciders.proofs.near.near.Goals as goal
 pub returns : goal.returns
 returns c =
     rw take_rest (
-    are_near c.args.pattern.now c.args.before.now (drop c.partition_point-from.result c.args.before.now) c.partition_point-from.result c.requires.pattern c.requires.before c.requires.order
+    are_near c.args.pattern.now c.args.before.now (drop c.partition_point-from.result c.args.before.now) c.partition_point-from.result
+    c.requires.pattern c.requires.before c.requires.order
     (IsPartitionPoint-from_clause (λ q. is_lt (slice_cmp nat_cmp (sort_key q) (head (tokens c.args.pattern.now)))) _ _
     c.partition_point-from.ensures.partitioned (parted (head (tokens c.args.pattern.now)) c.args.before.now c.requires.order.in_order)
     (λ a r f called. search rules))

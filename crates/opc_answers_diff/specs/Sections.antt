@@ -1,5 +1,5 @@
 -- Sections: what decides on both sides, and of which users something else is said there.
-use Rattle.std.specs.Prelude.{◌≡◌, ◌⊎◌, ℕ, List, [], ◌∷◌, ◌++◌, Option, codes, filter, map}
+use Rattle.std.specs.Prelude.{◌≡◌, ◌⊎◌, ◌≤◌, ◌<◌, ℕ, List, [], ◌∷◌, ◌++◌, Option, codes, filter, map}
 use Rattle.std.specs.List.{flat_map, slice_get}
 use Rattle.serde_json.specs.Data.{Data, member, no_members, object, string}
 use Rattle.opc_names.specs.declared.class.Class.TheVariants.{Opercmds}
@@ -10,6 +10,7 @@ use Rattle.opc_policy_deciders.specs.Decided.{ArePatternsOf, AreShortest}
 use Rattle.opc_policy_deciders.specs.Forms.{forms}
 use Rattle.opc_policy_deciders.specs.Kinds.{kinds}
 use Rattle.opc_policy_deciders.specs.Pairs.{IsDecidedByBoth, NoneDecidedByBoth, is_among}
+use Rattle.opc_policy_deciders.specs.Places.{places_alone}
 use Rattle.opc_answers.specs.Json.{json_line}
 use Rattle.opc_answers_may.specs.declared.commands.FormsAsked.TheVariants.{OfKind}
 use Rattle.opc_answers_may.specs.Commands.{profile_at}
@@ -32,6 +33,7 @@ pub record IsCompared (c : Compared) : Type 0 where
   pub others : ArePatternsOf c.after.policy c.others.items
   pub stand : c.stand.items ≡ map (is_among c.others.items) c.patterns.items
   pub others_stand : c.others_stand.items ≡ map (is_among c.patterns.items) c.others.items
+  pub alone : c.alone.items ≡ places_alone 0 c.others_stand.items
 
 -- for each form, the shortest resource that the profiles at these places decide, one before and one after
 abbrev pub AreFoundAt : Compared → (at other_at : ℕ) → List (Option (List ℕ)) → Type 0
@@ -41,6 +43,10 @@ AreFoundAt c at other_at found = AreShortest (IsDecidedByBoth c.before.policy c.
 abbrev pub NoneFoundAt : Compared → (at other_at : ℕ) → Type 0
 NoneFoundAt c at other_at = NoneDecidedByBoth c.before.policy c.after.policy (slice_get c.patterns.items at)
     (slice_get c.others.items other_at)
+
+-- the same of each place after, from one up to another
+abbrev pub NoneFoundBetween : Compared → (at from upto : ℕ) → Type 0
+NoneFoundBetween c at from upto = (place : ℕ) → from ≤ place → place < upto → NoneFoundAt c at place
 
 -- and they
 abbrev pub one_at : Compared → (at : ℕ) → Option Profile

@@ -6,6 +6,7 @@ ghost use Rattle.opc_answers_diff.specs.Sections.{
   AreFoundAt,
   IsCompared,
   NoneFoundAt,
+  NoneFoundBetween,
   NothingAt,
   changes_about,
   found_changes,
@@ -28,6 +29,7 @@ use opc_policy_deciders::candidates::{all_among, may_decide_both};
 use opc_policy_deciders::decided::patterns_of;
 use opc_policy_deciders::kind::{AskedKind, KINDS};
 use opc_policy_deciders::pairs::decided_by_both;
+use opc_policy_deciders::places::{next_candidate, places_alone};
 use opc_policy_members::profile::Profile;
 use opc_rows::Rows;
 use std::alloc::{AllocError, Global};
@@ -45,6 +47,8 @@ pub struct Compared {
     /// Of each pattern, whether it is on the other side, too.
     pub stand: Vec<bool>,
     pub others_stand: Vec<bool>,
+    /// Where the patterns after are that are not on the other side.
+    pub alone: Vec<usize>,
 }
 
 impl Compared {
@@ -60,6 +64,7 @@ impl Compared {
         let others = patterns_of(alloc, &after.policy)?;
         let stand = all_among(alloc, patterns.as_slice(), others.as_slice())?;
         let others_stand = all_among(alloc, others.as_slice(), patterns.as_slice())?;
+        let alone = places_alone(alloc, others_stand.as_slice())?;
         Ok(Compared {
             before,
             after,
@@ -69,6 +74,7 @@ impl Compared {
             others,
             stand,
             others_stand,
+            alone,
         })
     }
 
@@ -162,7 +168,21 @@ impl Compared {
         may_decide_both(patterns, others, stand, others_stand, at, other_at)
     }
 
-    /// The same, about forms of any of these kinds.
+    /// The first place after, from one on, whose profile may decide a resource with that at a place before; the end, if
+    /// there is none.
+    pub fn next_at(&self, at: usize, from: usize) -> usize
+        requires compared { IsCompared self.now }
+        requires from { from ≤ length self.now.others.items }
+        ensures within { (from ≤ result) × (result ≤ length self.now.others.items) }
+        ensures none { NoneFoundBetween self.now at from result }
+    {
+        let (patterns, others) = (self.patterns.as_slice(), self.others.as_slice());
+        let (stand, others_stand) = (self.stand.as_slice(), self.others_stand.as_slice());
+        let alone = self.alone.as_slice();
+        next_candidate(patterns, others, stand, others_stand, alone, at, from)
+    }
+
+    /// Of whom something else is said there, about forms of any of these kinds.
     fn all_changes(
         &self,
         alloc: Global,

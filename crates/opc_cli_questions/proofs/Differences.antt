@@ -1,5 +1,5 @@
 -- The parts of what changes from one policy to another, one after another.
-use Rattle.std.proofs.Common.{◌≡◌, ◌∙◌, ◌+◌, ◌<◌, ◌++◌, ◌∷◌, ℕ, zero, suc, Bool, List, [], Option, ap, append-nil, append_assoc, arith, get_or, if◌then◌else◌, length, refl, subst, sym, take}
+use Rattle.std.proofs.Common.{◌≡◌, ◌∙◌, ◌+◌, ◌-◌, ◌≤◌, ◌<◌, ◌++◌, ◌∷◌, ℕ, zero, suc, Bool, List, [], Option, ap, append-nil, append_assoc, arith, get_or, if◌then◌else◌, length, refl, subst, sym, take}
 use Rattle.std.specs.BTreeSet.{insert_key}
 use Rattle.std.specs.Io.KnownBytes.{Appends}
 use Rattle.std.specs.List.{flat_map}
@@ -101,6 +101,18 @@ pub place_more : (is : ℕ → Listed → Type 0) (a b c : Option (List ℕ)) (x
     → (one : Listed) × is count one × IsListed b c y z one → ArePlacesWritten is a c x z (count + 1)
 place_more is a b c x y z count (all, joined, so_far) (one, here, rest) =
     ((all.0 ++ one.0, all.1 ++ one.1), places_more is count all one joined here, listed_more a b c x y z all one so_far rest)
+
+-- places where nothing is listed
+pub places_passed : (is : ℕ → Listed → Type 0) (a b : Option (List ℕ)) (x y : Gains) (from upto : ℕ) → ArePlacesWritten is a b x y from
+    → from ≤ upto → ((place : ℕ) → from ≤ place → place < upto → is place none_listed) → ArePlacesWritten is a b x y upto
+places_passed is a b x y from upto so_far up none =
+    go (upto - from) from (omega arith) (omega (arith, up)) so_far
+  where
+    go : (n count : ℕ) → from ≤ count → upto ≡ count + n → ArePlacesWritten is a b x y count → ArePlacesWritten is a b x y upto
+    go zero count low at so_far = subst (ArePlacesWritten is a b x y) (omega (arith, at)) so_far
+    go (suc n) count low at so_far =
+        go n (count + 1) (omega (arith, low)) (omega (arith, at)) (place_more is a b b x y y count so_far
+        (none_listed, none count low (omega (arith, at)), nothing_listed b y))
 
 -- the last place
 pub place_last : (is : ℕ → Listed → Type 0) (a b c : Option (List ℕ)) (x y z : Gains) (reached at total : ℕ) → reached ≡ total → at ≡ total

@@ -76,7 +76,8 @@ fn print_pair<W: Write>(
     print_text(text.as_str(), output)
 }
 
-/// Prints what is decided at a place of the old policy, and at each of the new one.
+/// Prints what is decided at a place of the old policy, and at each of the new one. Where nothing can be, nothing is
+/// looked for.
 fn print_pairs<W: Write>(
     alloc: Global,
     form: Form,
@@ -92,8 +93,10 @@ fn print_pairs<W: Write>(
     ensures fails { IfErr result (λ failure. IsFailure failure.fault) }
 {
     let end = compared.others.len();
-    for other_at in 0..end {
+    let mut other_at = compared.next_at(at, 0);
+    while other_at < end {
         print_pair(alloc, form, compared, gains, at, other_at, output)?;
+        other_at = compared.next_at(at, other_at + 1);
     }
     print_pair(alloc, form, compared, gains, at, end, output)
 }

@@ -39,9 +39,10 @@ use Rattle.std.proofs.Common.{
   drop,
   subst,
   slice_set,
+  is_none,
 }
 use borrow.Rule.Slice.PartMut.{put_mid}
-use Rattle.std.specs.List.{cons_option, list_any}
+use Rattle.std.specs.List.{cons_option, list_all, list_any}
 use Rattle.std.proofs.lemmas.List.{take_more, map-append}
 use Rattle.std.proofs.lemmas.Bool.Decides.{nat_tests}
 use Rattle.std.proofs.lemmas.Grind.{common_steps}
@@ -62,6 +63,7 @@ use Rattle.opc_policy_witness.specs.Masks.{
   left_after,
   may_stand,
   may_stand_all,
+  takes_all,
 }
 
 pub both : (a b : Bool) → (a && b) ≡ true → (a ≡ true) × (b ≡ true)
@@ -232,6 +234,71 @@ enough_all place places cell include masks c s h =
     let first = stands_first place places cell include masks c s h in
     let at = any_at CHARACTERS.now c (is_listed c (may_be place c first.0)) in
     (at.0, at.1, subst (λ x. is_between (place ∷ places) (cell ∷ include) masks (x ∷ s) ≡ true) (sym at.2) h)
+
+-- ---- a mask that fits whatever follows
+
+length_fits : (mask : List (Option ℕ)) (s : List ℕ) → fits mask s ≡ true → length mask ≡ length s
+length_fits [] [] h = refl
+length_fits [] (c ∷ s) h = cc
+length_fits (cell ∷ mask) [] h = cc
+length_fits (cell ∷ mask) (c ∷ s) h = ap suc (length_fits mask s (both (fits_place cell c) _ h).1)
+
+fits_all : (mask : List (Option ℕ)) (s : List ℕ) → length mask ≡ length s → list_all is_none mask ≡ true → fits mask s ≡ true
+fits_all [] [] e h = refl
+fits_all [] (c ∷ s) e h = absurd (omega (arith, e))
+fits_all (cell ∷ mask) [] e h = absurd (omega (arith, e))
+fits_all (None ∷ mask) (c ∷ s) e h = fits_all mask s (omega (arith, e)) h
+fits_all (Some a ∷ mask) (c ∷ s) e h = cc
+
+one_fits_all : (count : ℕ) (masks : List (List (Option ℕ))) (s : List ℕ) → count ≡ length s
+    → list_any (takes_all count) masks ≡ true → fits_one masks s ≡ true
+one_fits_all count [] s e h = cc
+one_fits_all count (mask ∷ masks) s e h =
+    elim (either (takes_all count mask) (list_any (takes_all count) masks) h) [
+      | inl first ↦
+          let takes = both (length mask == count) (list_all is_none mask) first in
+          or_left (fits mask s) (fits_one masks s) (fits_all mask s (same_of (length mask) count takes.0 ∙ e) takes.1)
+      | inr rest ↦ or_right (fits mask s) (fits_one masks s) (one_fits_all count masks s e rest)
+    ] where
+      either : (a b : Bool) → (a || b) ≡ true → (a ≡ true) ⊎ (b ≡ true)
+      either true b k = inl refl
+      either false b k = inr k
+
+      or_left : (a b : Bool) → a ≡ true → (a || b) ≡ true
+      or_left true b k = refl
+      or_left false b k = cc
+
+pub none_between : (places : List NamePlace) (include : List (Option ℕ)) (masks : List (List (Option ℕ))) (s : List ℕ)
+    (count : ℕ) → count ≡ length include → list_any (takes_all count) masks ≡ true → is_between places include masks s ≡ false
+none_between places include masks s count is h = cases (fits include s) refl where
+  and_none : (a : Bool) → (a && false) ≡ false
+  and_none true = refl
+  and_none false = refl
+
+  cases : (b : Bool) → fits include s ≡ b → (may_stand_all places s && (b && not (fits_one masks s))) ≡ false
+  cases false e = and_none (may_stand_all places s)
+  cases true e = rw (one_fits_all count masks s (is ∙ length_fits include s e) h) (and_none (may_stand_all places s))
+
+-- no name lies between if none does behind a character that is tried
+pub none_tried : (places : List NamePlace) (include left : List (Option ℕ)) (masks : List (List (Option ℕ))) (tried : List ℕ)
+    (d : NamePlace) (e : Option ℕ) → 1 ≤ length places → 1 ≤ length include → left ≡ drop 1 include
+    → ((more : List NamePlace) (c : ℕ) (s : List ℕ)
+    → is_between (get_or places 0 d ∷ more) (get_or include 0 e ∷ left) masks (c ∷ s) ≡ true → (k : ℕ) × (k < length tried)
+    × (is_between (get_or places 0 d ∷ more) (get_or include 0 e ∷ left) masks (get_or tried k 0 ∷ s) ≡ true))
+    → ((k : ℕ) → k < length tried → (s : List ℕ) → is_between places include masks (get_or tried k 0 ∷ s) ≡ false)
+    → (s : List ℕ) → is_between places include masks s ≡ false
+none_tried [] include left masks tried d e h k is enough none s = absurd (omega (arith, h))
+none_tried (place ∷ places) [] left masks tried d e h k is enough none s = absurd (omega (arith, k))
+none_tried (place ∷ places) (cell ∷ include) left masks tried d e h k is enough none [] = refl
+none_tried (place ∷ places) (cell ∷ include) left masks tried d e h k is enough none (c ∷ s) =
+    not_so (is_between (place ∷ places) (cell ∷ include) masks (c ∷ s)) (λ so.
+    let found = enough places c s (rw is so) in
+    let was = none found.0 found.1 s in
+    let there : is_between (place ∷ places) (cell ∷ include) masks (get_or tried found.0 0 ∷ s) ≡ true = rw is at found.2 in
+    cc (sym was ∙ there)) where
+      not_so : (b : Bool) → (b ≡ true → ⊥) → b ≡ false
+      not_so true f = absurd (f refl)
+      not_so false f = refl
 
 -- ---- the first place of what is written
 

@@ -1,7 +1,24 @@
 -- Names of a fixed number of characters, and what patterns ask of each.
-use Rattle.std.specs.Prelude.{ℕ, ◌==◌, ◌&&◌, Bool, true, false, not, if◌then◌else◌, List, [], ◌∷◌, Option, Some, None}
+use Rattle.std.specs.Prelude.{
+  ℕ,
+  ◌==◌,
+  ◌&&◌,
+  Bool,
+  true,
+  false,
+  not,
+  if◌then◌else◌,
+  is_none,
+  length,
+  List,
+  [],
+  ◌∷◌,
+  Option,
+  Some,
+  None,
+}
 use Rattle.std.specs.Char.{is_ascii_digit}
-use Rattle.std.specs.List.{filter_map, list_any, position}
+use Rattle.std.specs.List.{filter_map, list_all, list_any, position}
 use Rattle.std.specs.Option.{option_map}
 use Rattle.opc_names.specs.Names.{is_name_character}
 use Rattle.opc_policy_witness.specs.declared.places.NamePlace.{NamePlace}
@@ -76,3 +93,7 @@ abbrev pub enough : List ℕ → NamePlace → Option ℕ → List (List (Option
 enough characters place (Some a) masks = position (λ c. c == a) characters
 enough characters place None masks =
     position (λ c. may_stand place c && not (list_any (asks_for c) masks)) characters
+
+-- whether a mask fits each text of so many characters
+abbrev pub takes_all : ℕ → List (Option ℕ) → Bool
+takes_all count mask = (length mask == count) && list_all is_none mask

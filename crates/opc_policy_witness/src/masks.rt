@@ -1,8 +1,8 @@
 //! What patterns ask of each place of a name.
-ghost use Rattle.std.specs.Prelude.{◌≡◌, ◌||◌, [], IfOk, map};
-ghost use Rattle.std.specs.List.{list_any};
+ghost use Rattle.std.specs.Prelude.{◌≡◌, ◌||◌, [], IfOk, is_none, map};
+ghost use Rattle.std.specs.List.{list_all, list_any};
 ghost use Rattle.std.specs.Option.{option_map};
-ghost use Rattle.opc_policy_witness.specs.Masks.{after, asks_for, fits, fits_one, left_after};
+ghost use Rattle.opc_policy_witness.specs.Masks.{after, asks_for, fits, fits_one, left_after, takes_all};
 
 use std::alloc::{AllocError, Global};
 
@@ -77,5 +77,31 @@ pub(crate) fn one_is_over(masks: &[Mask<'_>]) -> bool
     match masks {
         [] => false,
         [mask, rest @ ..] => is_over(mask) || one_is_over(rest),
+    }
+}
+
+fn asks_nothing(mask: Mask<'_>) -> bool
+    ensures { result ≡ list_all is_none mask.now }
+{
+    match mask {
+        [] => true,
+        [None, rest @ ..] => asks_nothing(rest),
+        [Some(_), ..] => false,
+    }
+}
+
+fn takes_all(mask: Mask<'_>, count: usize) -> bool
+    ensures { result ≡ takes_all count mask.now }
+{
+    mask.len() == count && asks_nothing(mask)
+}
+
+/// Whether one of these masks fits each name of so many characters.
+pub(crate) fn one_takes_all(masks: &[Mask<'_>], count: usize) -> bool
+    ensures { result ≡ list_any (takes_all count) (map (λ mask. mask.now) masks.now) }
+{
+    match masks {
+        [] => false,
+        [mask, rest @ ..] => takes_all(mask, count) || one_takes_all(rest, count),
     }
 }

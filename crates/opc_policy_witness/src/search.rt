@@ -22,7 +22,7 @@ ghost use Rattle.std.specs.List.{list_any};
 ghost use Rattle.opc_policy_witness.specs.Masks.{asks_for, enough, is_among, is_between, may_stand};
 ghost use Rattle.opc_policy_witness.specs.declared.places.NamePlace.{NamePlace as ThePlace};
 
-use crate::masks::{Mask, after, ask_for, is_over, one_is_over};
+use crate::masks::{Mask, after, ask_for, is_over, one_is_over, one_takes_all};
 use crate::places::NamePlace;
 use std::alloc::{AllocError, Global};
 
@@ -72,6 +72,25 @@ fn candidates(place: NamePlace, asked: Option<u8>, exclude: &[Mask<'_>]) -> &'st
     }
 }
 
+/// The same where this is left of the mask behind the place, but none if another mask fits whatever follows.
+fn tried(
+    place: NamePlace,
+    asked: Option<u8>,
+    include: Mask<'_>,
+    exclude: &[Mask<'_>],
+) -> &'static [u8]
+    ensures { (places : List ThePlace) → (c : ℕ) → (s : List ℕ)
+        → is_between (place ∷ places) (asked ∷ include.now) (map (λ mask. mask.now) exclude.now) (c ∷ s) ≡ true
+        → (k : ℕ) × (k < length result.now)
+        × (is_between (place ∷ places) (asked ∷ include.now) (map (λ mask. mask.now) exclude.now)
+        (slice_index result.now k ∷ s) ≡ true) }
+{
+    if one_takes_all(exclude, include.len() + 1) {
+        return &[];
+    }
+    candidates(place, asked, exclude)
+}
+
 /// Writes a name into `name` that may stand at these places and fits one mask and none of the others, if there is one.
 pub(crate) fn find(
     alloc: Global,
@@ -92,7 +111,7 @@ pub(crate) fn find(
     let [asked, include_left @ ..] = include else {
         return Ok(false);
     };
-    for character in candidates(*place, *asked, exclude) {
+    for character in tried(*place, *asked, include_left, exclude) {
         if place.may_hold_asked(*asked, *character) {
             let left = after(alloc, exclude, *character)?;
             if find(

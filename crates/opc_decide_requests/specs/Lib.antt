@@ -1,0 +1,9 @@
+pub mod AccessQuestions
+pub mod Actions
+pub mod Contexts
+pub mod Evaluations
+pub mod Parts
+pub mod RequestFaults
+pub mod RequestKeys
+pub mod Requests
+pub mod Subjects

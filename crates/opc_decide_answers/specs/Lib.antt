@@ -1,0 +1,5 @@
+pub mod DecisionLaws
+pub mod DecisionValues
+pub mod Decisions
+pub mod Evaluated
+pub mod Replies

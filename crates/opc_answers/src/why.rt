@@ -10,7 +10,6 @@ ghost use Rattle.opc_answers.specs.Why.{
   both_whys,
   command_covers,
   covers_of,
-  ruling_in,
   said_of_whys,
   why_access,
   why_command,
@@ -64,6 +63,21 @@ pub struct Explanation {
     pub verdict: Verdict,
     pub rule: Rule,
     pub instead: Option<Instead>,
+}
+
+impl Explanation {
+    ghost use Rattle.opc_answers.specs.Why.{ruling_in};
+
+    /// The ruling that the verdict is, if it decides.
+    pub fn ruling(&self) -> Option<Ruling>
+        ensures { result ≡ ruling_in self.now.verdict self.now.rule }
+    {
+        match self.verdict {
+            Verdict::Allowed => Some(Ruling::Allowed(self.rule)),
+            Verdict::Denied => Some(Ruling::Denied(self.rule)),
+            Verdict::Undecided => None,
+        }
+    }
 }
 
 /// The profiles that cover, with the level that a user holds in each.
@@ -209,17 +223,6 @@ fn why_command(
     })
 }
 
-/// The ruling that a verdict is, if it decides.
-fn ruling_in(verdict: Verdict, rule: Rule) -> Option<Ruling>
-    ensures { result ≡ ruling_in verdict rule }
-{
-    match verdict {
-        Verdict::Allowed => Some(Ruling::Allowed(rule)),
-        Verdict::Denied => Some(Ruling::Denied(rule)),
-        Verdict::Undecided => None,
-    }
-}
-
 /// Which of them is said of a command and of its line: that the user cannot log on comes before both.
 fn said_of_whys(command: &Explanation, line: &Explanation) -> Said
     ensures { result ≡ said_of_whys command.now line.now }
@@ -227,8 +230,7 @@ fn said_of_whys(command: &Explanation, line: &Explanation) -> Said
     if command.instead.is_some() {
         return Said::OfCommand;
     }
-    let ruled = ruling_in(command.verdict, command.rule);
-    said_of(&ruled, &ruling_in(line.verdict, line.rule))
+    said_of(&command.ruling(), &line.ruling())
 }
 
 /// Why a command may or may not be entered, with the line that it asks for.
@@ -284,7 +286,7 @@ fn why_plain(
 
 /// Why a user, or nobody, may or may not, at a console if one is named: with the level that is held in each profile
 /// that covers, or without; and with the line that a command asks for, if it asks for one.
-pub(crate) fn why_in(
+pub fn why_in(
     alloc: Global,
     room: &Room,
     levels: bool,

@@ -3,7 +3,6 @@ ghost use Rattle.std.specs.Prelude.{◌≡◌, IfOk};
 ghost use Rattle.serde_json.specs.View.{view};
 ghost use Rattle.opc_answers.specs.Json.{text_or_null};
 ghost use Rattle.opc_answers.specs.Texts.{allows};
-ghost use Rattle.opc_answers.specs.Why.{ruling_in};
 ghost use Rattle.opc_decide_answers.specs.Decisions.{decision_of, said, unknown};
 
 use crate::policy::DecidingPolicy;
@@ -13,9 +12,7 @@ use opc_answers::text::{is_allowed, verdict_word};
 use opc_answers::why::Explanation;
 use opc_decide_requests::question::AccessQuestion;
 use opc_policy::ruling::Ruling;
-use opc_policy::verdict::Verdict;
 use opc_terms::fault::Fault;
-use opc_terms::rule::Rule;
 use serde_json::Value;
 use std::alloc::{AllocError, Global};
 
@@ -31,22 +28,11 @@ pub enum AccessDecision {
     NoConsole,
 }
 
-/// The ruling that a verdict is, if it decides.
-fn ruling_in(verdict: Verdict, rule: Rule) -> Option<Ruling>
-    ensures { result ≡ ruling_in verdict rule }
-{
-    match verdict {
-        Verdict::Allowed => Some(Ruling::Allowed(rule)),
-        Verdict::Denied => Some(Ruling::Denied(rule)),
-        Verdict::Undecided => None,
-    }
-}
-
 fn said(why: &Explanation) -> AccessDecision
     ensures { result ≡ said why.now }
 {
     AccessDecision::Said {
-        ruling: ruling_in(why.verdict, why.rule),
+        ruling: why.ruling(),
         instead: why.instead,
     }
 }

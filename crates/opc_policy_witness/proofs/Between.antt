@@ -61,9 +61,11 @@ use Rattle.opc_policy_witness.specs.Masks.{
   fits_place,
   is_between,
   left_after,
+  left_takes,
   may_stand,
   may_stand_all,
   takes_all,
+  takes_behind,
 }
 
 pub both : (a b : Bool) → (a && b) ≡ true → (a ≡ true) × (b ≡ true)
@@ -339,3 +341,35 @@ pub no_first : (places : List NamePlace) (include : List (Option ℕ)) (masks : 
     (d : NamePlace) (e : Option ℕ) → 1 ≤ length places → 1 ≤ length include
     → (may_stand (get_or places 0 d) c && fits_place (get_or include 0 e) c) ≡ false → is_between places include masks (c ∷ s) ≡ false
 no_first places include masks c s d e h k may = between_first places include masks c s d e h k ∙ rw may refl
+
+-- ---- a character behind which a mask fits whatever follows
+
+takes_after : (c count : ℕ) (masks : List (List (Option ℕ))) → list_any (takes_behind c count) masks ≡ list_any (takes_all count) (after c masks)
+takes_after c count [] = refl
+takes_after c count (mask ∷ masks) = go (left_after c mask) (takes_after c count masks)
+  where
+    go : (o : Option (List (Option ℕ))) → list_any (takes_behind c count) masks ≡ list_any (takes_all count) (after c masks)
+        → (left_takes count o || list_any (takes_behind c count) masks) ≡ list_any (takes_all count) (cons_option o (after c masks))
+    go None rest = rest
+    go (Some left) rest = ap (λ b. takes_all count left || b) rest
+
+pub goes_nowhere : (places : List NamePlace) (include left : List (Option ℕ)) (masks : List (List (Option ℕ))) (c : ℕ) (s : List ℕ)
+    (d : NamePlace) (e : Option ℕ) → 1 ≤ length places → 1 ≤ length include → left ≡ drop 1 include
+    → ((may_stand (get_or places 0 d) c && fits_place (get_or include 0 e) c) && not (list_any (takes_behind c (length left)) masks)) ≡ false
+    → is_between places include masks (c ∷ s) ≡ false
+goes_nowhere places include left masks c s d e h k is may =
+    cases (may_stand (get_or places 0 d) c && fits_place (get_or include 0 e) c) refl
+  where
+    taken : (b : Bool) → (true && not b) ≡ false → b ≡ true
+    taken true h = refl
+    taken false h = cc
+
+    cases : (b : Bool) → (may_stand (get_or places 0 d) c && fits_place (get_or include 0 e) c) ≡ b
+        → is_between places include masks (c ∷ s) ≡ false
+    cases false first = no_first places include masks c s d e h k first
+    cases true first =
+        none_behind places include masks (after c masks) c s h k refl
+        (none_between (drop 1 places) (drop 1 include) (after c masks) s (length left) (ap length is)
+        (sym (takes_after c (length left) masks)
+        ∙ taken (list_any (takes_behind c (length left)) masks)
+        (sym (ap (λ b. b && not (list_any (takes_behind c (length left)) masks)) first) ∙ may)))

@@ -97,3 +97,11 @@ enough characters place None masks =
 -- whether a mask fits each text of so many characters
 abbrev pub takes_all : ℕ → List (Option ℕ) → Bool
 takes_all count mask = (length mask == count) && list_all is_none mask
+
+-- whether it fits each text that begins with a character and goes on with so many
+abbrev pub left_takes : ℕ → Option (List (Option ℕ)) → Bool
+left_takes count None = false
+left_takes count (Some left) = takes_all count left
+
+abbrev pub takes_behind : ℕ → ℕ → List (Option ℕ) → Bool
+takes_behind c count mask = left_takes count (left_after c mask)

@@ -40,30 +40,25 @@ fn cell_of(token: u8) -> Option<u8>
 /// A mask, and after it what a qualifier other than `**` asks of a name of so many characters, if it matches one.
 fn with_name(
     alloc: Global,
-    head: Mask<'_>,
+    mut mask: Vec<Option<u8>>,
     qualifier: &[u8],
     length: usize,
 ) -> Result<Option<Vec<Option<u8>>>, AllocError>
     requires { StarOnlyLast qualifier.now }
     ensures { IfOk result (λ found. option_map (λ mask. mask.items) found
-        ≡ option_map (λ mask. head.now ++ mask) (spread (tokens qualifier.now) length)) }
+        ≡ option_map (λ rest. mask.items ++ rest) (spread (tokens qualifier.now) length)) }
 {
     let [token, tokens @ ..] = qualifier else {
-        return Ok(if length == 0 {
-            Some(head.to_vec(alloc)?)
-        } else {
-            None
-        });
+        return Ok(if length == 0 { Some(mask) } else { None });
     };
     if *token == STAR {
-        return Ok(Some(with_open(alloc, head, length)?));
+        return Ok(Some(with_open(alloc, mask.as_slice(), length)?));
     }
     if length == 0 {
         return Ok(None);
     }
-    let mut longer = head.to_vec(alloc)?;
-    longer.push(cell_of(*token))?;
-    with_name(alloc, longer.as_slice(), tokens, length - 1)
+    mask.push(cell_of(*token))?;
+    with_name(alloc, mask, tokens, length - 1)
 }
 
 /// The same of a piece.
@@ -85,7 +80,10 @@ fn with_piece(
                 Ok(None)
             }
         }
-        FormPiece::Name(_, length) => with_name(alloc, head, qualifier, length),
+        FormPiece::Name(_, length) => {
+            let copied = head.to_vec(alloc)?;
+            with_name(alloc, copied, qualifier, length)
+        }
     }
 }
 

@@ -2,7 +2,15 @@
 ghost use Rattle.std.specs.Prelude.{◌≡◌, ◌||◌, [], IfOk, is_none, map};
 ghost use Rattle.std.specs.List.{list_all, list_any};
 ghost use Rattle.std.specs.Option.{option_map};
-ghost use Rattle.opc_policy_witness.specs.Masks.{after, asks_for, fits, fits_one, left_after, takes_all};
+ghost use Rattle.opc_policy_witness.specs.Masks.{
+  after,
+  asks_for,
+  fits,
+  fits_one,
+  left_after,
+  takes_all,
+  takes_behind,
+};
 
 use std::alloc::{AllocError, Global};
 
@@ -103,5 +111,27 @@ pub(crate) fn one_takes_all(masks: &[Mask<'_>], count: usize) -> bool
     match masks {
         [] => false,
         [mask, rest @ ..] => takes_all(mask, count) || one_takes_all(rest, count),
+    }
+}
+
+/// Whether a mask fits each name that begins with a character and goes on with so many.
+fn takes_behind(mask: Mask<'_>, character: u8, count: usize) -> bool
+    ensures { result ≡ takes_behind character count mask.now }
+{
+    match left_after(mask, character) {
+        Some(left) => takes_all(left, count),
+        None => false,
+    }
+}
+
+/// Whether one of these masks does.
+pub(crate) fn one_takes_behind(masks: &[Mask<'_>], character: u8, count: usize) -> bool
+    ensures { result ≡ list_any (takes_behind character count) (map (λ mask. mask.now) masks.now) }
+{
+    match masks {
+        [] => false,
+        [mask, rest @ ..] => {
+            takes_behind(mask, character, count) || one_takes_behind(rest, character, count)
+        }
     }
 }

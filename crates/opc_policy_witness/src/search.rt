@@ -19,10 +19,18 @@ ghost use Rattle.std.specs.Prelude.{
   true,
 };
 ghost use Rattle.std.specs.List.{list_any};
-ghost use Rattle.opc_policy_witness.specs.Masks.{asks_for, enough, is_among, is_between, may_stand};
+ghost use Rattle.opc_policy_witness.specs.Masks.{
+  asks_for,
+  enough,
+  fits_place,
+  is_among,
+  is_between,
+  may_stand,
+  takes_behind,
+};
 ghost use Rattle.opc_policy_witness.specs.declared.places.NamePlace.{NamePlace as ThePlace};
 
-use crate::masks::{Mask, after, ask_for, is_over, one_is_over, one_takes_all};
+use crate::masks::{Mask, after, ask_for, is_over, one_is_over, one_takes_all, one_takes_behind};
 use crate::places::NamePlace;
 use std::alloc::{AllocError, Global};
 
@@ -91,6 +99,21 @@ fn tried(
     candidates(place, asked, exclude)
 }
 
+/// Whether a name may go on behind a character at a place, where this is left of the mask behind it: the character may
+/// stand there, and no other mask fits whatever follows it.
+fn may_go_on(
+    place: NamePlace,
+    asked: Option<u8>,
+    character: u8,
+    include: Mask<'_>,
+    exclude: &[Mask<'_>],
+) -> bool
+    ensures { result ≡ ((may_stand place character && fits_place asked character)
+        && not (list_any (takes_behind character (length include.now)) (map (λ mask. mask.now) exclude.now))) }
+{
+    place.may_hold_asked(asked, character) && !one_takes_behind(exclude, character, include.len())
+}
+
 /// Writes a name into `name` that may stand at these places and fits one mask and none of the others, if there is one.
 pub(crate) fn find(
     alloc: Global,
@@ -112,7 +135,7 @@ pub(crate) fn find(
         return Ok(false);
     };
     for character in tried(*place, *asked, include_left, exclude) {
-        if place.may_hold_asked(*asked, *character) {
+        if may_go_on(*place, *asked, *character, include_left, exclude) {
             let left = after(alloc, exclude, *character)?;
             if find(
                 alloc,

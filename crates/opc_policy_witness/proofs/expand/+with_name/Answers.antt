@@ -1,4 +1,4 @@
-use Rattle.std.proofs.Common.{◌≡◌, ◌∙◌, ◌++◌, ◌∷◌, [], ap, arith, get_or, rules, subst, IfOk, Option, Vec, Global, ℕ}
+use Rattle.std.proofs.Common.{◌≡◌, ◌∙◌, ◌++◌, ◌∷◌, [], ap, arith, get_or, subst, IfOk, Option, Vec, Global, ℕ}
 use Rattle.std.specs.Option.{option_map}
 use Rattle.std.proofs.lemmas.List.{take_rest}
 use Rattle.opc_policy_witness.specs.Pieces.{cell_of}
@@ -8,10 +8,8 @@ use Rattle.opc_policy_witness.proofs.expand.+with_name.Goals as goal
 pub returns : goal.returns
 returns t c =
     let q = c.args.qualifier.now in
-    let copied : c.in_ok-longer.longer.items ≡ c.args.head.now = search rules in
-    let is : c.as_slice.result.now ≡ c.args.head.now ++ cell_of (get_or q 0 0) ∷ [] =
-    c.as_slice.ensures.value ∙ c.in_ok-push.ensures.items ∙ ap (λ l. l ++ c.cell_of.result ∷ []) copied
-    ∙ ap (λ cell. c.args.head.now ++ cell ∷ []) c.cell_of.ensures in
+    let is : c.push.new.self.items ≡ c.args.mask.items ++ cell_of (get_or q 0 0) ∷ [] =
+    c.in_ok-push.ensures.items ∙ ap (λ cell. c.args.mask.items ++ cell ∷ []) c.cell_of.ensures in
     subst (λ x. IfOk c.with_name.result (λ found. option_map {T = Vec (Option ℕ) Global} (λ mask. mask.items) found ≡ x))
-    (spread_behind q c.args.head.now c.as_slice.result.now c.args.length 0 c.in-len1-up.len_at_least c.if-token-eq-STAR.false
+    (spread_behind q c.args.mask.items c.push.new.self.items c.args.length 0 c.in-len1-up.len_at_least c.if-token-eq-STAR.false
     (omega (arith, c.if-length-eq0-2.false)) is) (rw take_rest at c.with_name.ensures)

@@ -1,9 +1,9 @@
 use Rattle.std.proofs.Common.{◌≡◌, ◌∙◌, ◌<◌, ap, arith, false, map, get_or, length, Ok, sym, below_more, true}
 use Rattle.std.proofs.lemmas.List.{take_rest}
-use Rattle.opc_policy_witness.proofs.Between.{first_written, no_first, none_behind, none_tried, some_behind}
+use Rattle.opc_policy_witness.proofs.Between.{both, first_written, goes_nowhere, none_behind, none_tried, some_behind}
 use Rattle.opc_policy_witness.proofs.search.+find.Goals.{
-  then-may_hold_asked+in_ok-left+in_ok-find+else-branch,
-  else-may_hold_asked,
+  then-may_go_on+in_ok-left+in_ok-find+else-branch,
+  else-may_go_on,
 }
 use Rattle.opc_policy_witness.proofs.search.+find.Goals as goal
 
@@ -16,7 +16,7 @@ returns-then-branch-clause-found t c = λ e.
     let some : 0 < length c.loop-character.name = omega (arith, c.loop-character.auto.name, c.requires, c.in-len1-up.len_at_least) in
     rw (first_written c.loop-character.name c.find.new.name character some)
     (some_behind c.args.places.now c.args.include.now masks _ character c.find.new.name _ _ c.in-len1-up.len_at_least
-    c.in-len1-up-include.len_at_least (sym c.if-may_hold_asked.ensures)
+    c.in-len1-up-include.len_at_least (both _ _ (sym c.if-may_go_on.ensures)).0
     (ap (map (λ mask. mask.now)) c.as_slice.ensures.value ∙ c.in_ok-left.ensures) (rw (take_rest, take_rest) at rest))
 
 pub loop-character-preserved : goal.loop-character-preserved
@@ -28,13 +28,13 @@ loop-character-preserved t c =
     let some = c.in-len1-up.len_at_least in
     let more = c.in-len1-up-include.len_at_least in
     below_more _ _ c.loop-character.invariant (λ s.
-    elim c.if-may_hold_asked.branch [
-      | then-may_hold_asked+in_ok-left+in_ok-find+else-branch w ↦
+    elim c.if-may_go_on.branch [
+      | then-may_go_on+in_ok-left+in_ok-find+else-branch w ↦
           let was : w.find.result ≡ Ok false = w.in_ok-find.was ∙ ap Ok w.if-branch.false in
           let rest = w.find.ensures.none was s in
           none_behind places include masks _ character s some more
           (ap (map (λ mask. mask.now)) w.as_slice.ensures.value ∙ w.in_ok-left.ensures) (rw (take_rest, take_rest) at rest)
-      | else-may_hold_asked w ↦ no_first places include masks character s _ _ some more (sym w.if-may_hold_asked.ensures)
+      | else-may_go_on w ↦ goes_nowhere places include _ masks character s _ _ some more (take_rest include 1) (sym w.if-may_go_on.ensures)
     ])
 
 pub returns-clause-none : goal.returns-clause-none

@@ -3,45 +3,35 @@ use Rattle.std.proofs.Common.{
   ◌≡◌,
   inl,
   inr,
-  ◌≤◌,
-  ◌<◌,
-  ◌+◌,
   ◌∙◌,
-  ap,
   sym,
   refl,
-  subst,
   ℕ,
   Bool,
   true,
   false,
-  ◌||◌,
+  ◌&&◌,
   List,
   [],
   ◌∷◌,
   ◌++◌,
   Option,
-  All,
-  get_or,
   length,
-  take,
   arith,
 }
-use Rattle.std.specs.List.{list_any}
-use Rattle.std.proofs.lemmas.List.{take_more}
 use Rattle.opc_names.specs.Names.{IsPattern}
 use Rattle.opc_names.specs.Order.{head}
-use Rattle.opc_names.specs.Patterns.{CoversText, covers_text, tokens}
-use Rattle.opc_names.proofs.Computed.{text_computes}
+use Rattle.opc_names.specs.Patterns.{covers_text, tokens}
 use Rattle.opc_names.proofs.Heads.{heads_are_prefixes}
 use Rattle.std.proofs.lemmas.Bool.{cases_lt}
 use Rattle.opc_policy_witness.proofs.SortKeys.{begins_so}
 use Rattle.opc_policy_deciders.specs.Between.{IsBetween}
-use Rattle.opc_policy_deciders.specs.Decided.{AddsShortest, AreShortest}
+use Rattle.opc_policy_deciders.specs.Decided.{AreShortest}
 use Rattle.opc_policy_deciders.specs.Forms.{AskedForm}
-use Rattle.opc_policy_deciders.specs.Near.{AreNear, CoverAsMany, NoneInCommon}
+use Rattle.opc_policy_witness.specs.Ends.{AreNearThese, NoneInCommon}
+use Rattle.opc_policy_deciders.specs.Near.{AreNear}
 use Rattle.opc_policy_deciders.proofs.Between.{both_true}
-use Rattle.opc_policy_deciders.proofs.Listing.{all_added, all_same}
+use Rattle.opc_policy_deciders.proofs.Listing.{all_same}
 
 -- tests whether one head begins with the other say that nothing is in common, if both fail
 pub none_in_common : (p q : List ℕ) (one other : Bool) → IsPattern p → IsPattern q
@@ -57,6 +47,14 @@ none_in_common p q one other valid also longer shorter not_one not_other resourc
       | inr high ↦ (let more = begins_so (head (tokens q)) (head (tokens p)) second.0 first.0 (sym second.1 ∙ first.1) high in
           let bad : true ≡ false = sym (longer more.0 more.1) ∙ not_one in cc)
     ]
+
+-- those of those that are near
+pub nearer : (p : List ℕ) (near those before : List (List ℕ)) → AreNearThese (p ∷ []) near those → AreNear p those before → AreNear p near before
+nearer p near those before one other r covers = one r (alone (covers_text p r) covers) ∙ other r covers
+  where
+    alone : (b : Bool) → b ≡ true → (b && true) ≡ true
+    alone true h = refl
+    alone false h = cc
 
 -- ---- what lies between
 

@@ -46,7 +46,8 @@ use Rattle.opc_names.specs.Patterns.{CoversText, tokens}
 use Rattle.opc_names.proofs.Heads.{heads_are_prefixes}
 use Rattle.opc_policy_shared.proofs.Followed.{covered_names_follow}
 use Rattle.opc_policy_shared.specs.Follows.{FollowsNone, follows, stands_for}
-use Rattle.opc_policy_deciders.specs.Near.{IsEarlier, NoneInCommon}
+use Rattle.opc_policy_witness.specs.Ends.{NoneInCommon}
+use Rattle.opc_policy_deciders.specs.Near.{IsEarlier}
 use Rattle.opc_policy_deciders.specs.Places.{DiffersBetween}
 use Rattle.opc_policy_deciders.proofs.Parting.{is_below, parted}
 

@@ -4,8 +4,6 @@ use Rattle.std.proofs.Common.{
   ◌⊎◌,
   inl,
   inr,
-  ◌≤◌,
-  ◌<◌,
   ◌∙◌,
   ap,
   sym,
@@ -18,7 +16,6 @@ use Rattle.std.proofs.Common.{
   true,
   false,
   cond,
-  ◌&&◌,
   ◌||◌,
   List,
   [],
@@ -27,14 +24,12 @@ use Rattle.std.proofs.Common.{
   Some,
   None,
   All,
-  get_or,
-  length,
   map,
   arith,
 }
 use Rattle.std.specs.Prelude.{find, if◌then◌else◌, not, unwrap_or}
 use Rattle.std.specs.Cmp.Lexicographic.{nat_list_cmp_total, slice_cmp}
-use Rattle.std.specs.List.{AllByRecursion, AllPairs, list_any, slice_get}
+use Rattle.std.specs.List.{AllByRecursion, list_any, slice_get}
 use Rattle.std.specs.Ordering.{is_lt, nat_cmp, ordering_reverse}
 use Rattle.std.specs.Str.{bytes_eq}
 use Rattle.std.specs.declared.cmp.Ordering.{Ordering}
@@ -43,7 +38,7 @@ use Rattle.std.proofs.lemmas.Option.{same_Some}
 use Rattle.std.proofs.lemmas.Slice.Eq.{bytes_eq-Decides}
 use Rattle.opc_names.specs.Authority.{same_class}
 use Rattle.opc_names.specs.Order.{sort_key}
-use Rattle.opc_names.specs.Patterns.{CoversText, covers_text}
+use Rattle.opc_names.specs.Patterns.{covers_text}
 use Rattle.opc_names.specs.declared.class.Class.{Class}
 use Rattle.opc_names.specs.declared.class.Class.TheVariants.{Console, Opercmds}
 use Rattle.opc_names.proofs.Computed.{text_computes}
@@ -51,9 +46,9 @@ use Rattle.opc_policy_members.specs.declared.policy.Policy.{Policy}
 use Rattle.opc_policy_members.specs.declared.profile.Profile.{Profile}
 use Rattle.opc_policy_members.specs.Profiles.{AreMostSpecificFirst, is_before, of_class}
 use Rattle.opc_policy_members.specs.Taken.{is_active}
-use Rattle.opc_policy_deciders.specs.Decided.{ArePatternsOf, deciding_pattern, pattern_of, patterns_of}
-use Rattle.opc_policy_deciders.specs.Near.{NoneInCommon}
-use Rattle.opc_policy_deciders.specs.Pairs.{IsDecidedByBoth, NoneDecidedByBoth, is_among}
+use Rattle.opc_policy_deciders.specs.Decided.{ArePatternsOf, deciding_pattern, pattern_of}
+use Rattle.opc_policy_witness.specs.Ends.{NoneInCommon}
+use Rattle.opc_policy_deciders.specs.Pairs.{NoneDecidedByBoth, is_among}
 use Rattle.opc_policy_deciders.proofs.Finding.{decides_first}
 
 -- ---- the order of patterns

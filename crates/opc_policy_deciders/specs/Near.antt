@@ -2,7 +2,7 @@
 use Rattle.std.specs.Prelude.{◌≡◌, ℕ, All, true, List}
 use Rattle.std.specs.List.{AllPairs, list_any}
 use Rattle.std.specs.Ordering.{is_lt}
-use Rattle.opc_names.specs.Patterns.{CoversText, covers_text}
+use Rattle.opc_names.specs.Patterns.{covers_text}
 use Rattle.opc_policy_members.specs.Profiles.{pattern_cmp}
 
 -- patterns in the order of the search, all of them before one
@@ -12,10 +12,6 @@ IsEarlier p q = is_lt (pattern_cmp p q) ≡ true
 pub record ComeBefore (list : List (List ℕ)) (pattern : List ℕ) : Type 0 where
   pub in_order : AllPairs IsEarlier list
   pub before : All (λ q. IsEarlier q pattern) list
-
--- no resource is covered by both
-abbrev pub NoneInCommon : (p q : List ℕ) → Type 0
-NoneInCommon p q = (resource : List ℕ) → CoversText p resource → CoversText q resource → ⊥
 
 -- of resources of which this holds, these patterns cover as many as those
 abbrev pub CoverAsMany : (List ℕ → Type 0) → (these those : List (List ℕ)) → Type 0

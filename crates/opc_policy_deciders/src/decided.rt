@@ -22,6 +22,7 @@ use opc_names::class::Class;
 use opc_names::name::{Pattern, Resource};
 use opc_policy_members::policy::Policy;
 use opc_policy_members::profiles::Profiles;
+use opc_policy_witness::ends::near_these;
 use opc_policy_witness::witness::witness;
 use std::alloc::{AllocError, Global};
 
@@ -112,7 +113,8 @@ fn decided_by(
     ensures { IfOk result (λ list. AreShortest (IsBetween (pattern.now ∷ []) before.now) forms list.items) }
 {
     let own = [*pattern];
-    between_all(alloc, &own, near(pattern, before))
+    let exclude = near_these(alloc, &own, near(pattern, before))?;
+    between_all(alloc, &own, exclude.as_slice())
 }
 
 /// For each form, the shortest resource that is decided by the profile of the pattern at this place of all; at their

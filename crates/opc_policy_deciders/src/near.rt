@@ -4,16 +4,22 @@ ghost use Rattle.std.specs.Cmp.Lexicographic.{slice_cmp};
 ghost use Rattle.std.specs.Ordering.{is_lt, nat_cmp};
 ghost use Rattle.opc_names.specs.Names.{IsPattern};
 ghost use Rattle.opc_names.specs.Order.{sort_key};
-ghost use Rattle.opc_policy_deciders.specs.Near.{AreNear, ComeBefore, NoneInCommon};
+ghost use Rattle.opc_policy_witness.specs.Ends.{NoneInCommon};
+ghost use Rattle.opc_policy_deciders.specs.Near.{AreNear, ComeBefore};
 
 use opc_names::name::Pattern;
+use opc_policy_witness::ends::may_share_end;
 
-/// Whether two patterns may cover one resource: it begins with the heads of both, so one head begins with the other.
+/// Whether two patterns may cover one resource: it ends in the last characters of both, and it begins with the heads of
+/// both, so one head begins with the other.
 pub(crate) fn may_meet(pattern: &Pattern, other: &Pattern) -> bool
     requires pattern { IsPattern pattern.now }
     requires other { IsPattern other.now }
     ensures { result ≡ false → NoneInCommon pattern.now other.now }
 {
+    if !may_share_end(pattern, other) {
+        return false;
+    }
     let (head, other_head) = (pattern.head().as_bytes(), other.head().as_bytes());
     if head.starts_with(other_head) {
         return true;

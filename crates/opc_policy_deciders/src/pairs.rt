@@ -18,6 +18,7 @@ use crate::decided::between_all;
 use crate::places::place_past;
 use opc_names::name::{Pattern, Resource};
 use opc_policy_members::policy::Policy;
+use opc_policy_witness::ends::near_these;
 use std::alloc::{AllocError, Global};
 
 /// The first of some patterns, if there is one.
@@ -140,7 +141,7 @@ fn near_all(
     let mut list = Vec::new(alloc);
     add_near(&mut list, text, one)?;
     add_near(&mut list, text, other)?;
-    Ok(list)
+    near_these(alloc, include, list.as_slice())
 }
 
 /// Whether there is no resource of any form.

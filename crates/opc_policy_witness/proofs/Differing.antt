@@ -183,7 +183,7 @@ both : (a b : Bool) → (a && b) ≡ true → (a ≡ true) × (b ≡ true)
 both true b h = (refl, h)
 both false b h = cc
 
-and_true : (a b : Bool) → a ≡ true → b ≡ true → (a && b) ≡ true
+pub and_true : (a b : Bool) → a ≡ true → b ≡ true → (a && b) ≡ true
 and_true true b h k = k
 and_true false b h k = cc
 
@@ -257,7 +257,7 @@ ends_in (x ∷ s) end h = go (x == 46) refl (ends_in s end h)
               ∙ ap (onto_first x) rest.is ∙ put.2;
         }
 
-last_same : (xs ys : List (List ℕ)) (x y : List ℕ) → xs ++ x ∷ [] ≡ ys ++ y ∷ [] → x ≡ y
+pub last_same : (xs ys : List (List ℕ)) (x y : List ℕ) → xs ++ x ∷ [] ≡ ys ++ y ∷ [] → x ≡ y
 last_same [] [] x y e = cc
 last_same [] (z ∷ []) x y e = cc
 last_same [] (z ∷ (w ∷ ys)) x y e = cc
@@ -298,7 +298,7 @@ starless l c end h q = elim q [ inl e ↦ absurd (not_stars l c end h e) | inr o
 -- ---- a pattern and a resource whose last characters differ
 
 -- what a pattern covers ends in its last characters
-covered_ends : (p r end : List ℕ) (c : ℕ) → list_all is_fixed (c ∷ end) ≡ true → AllByRecursion IsQualifier (qualifiers (p ++ c ∷ end))
+pub covered_ends : (p r end : List ℕ) (c : ℕ) → list_all is_fixed (c ∷ end) ≡ true → AllByRecursion IsQualifier (qualifiers (p ++ c ∷ end))
     → CoversText (p ++ c ∷ end) r → (before : List (List ℕ)) × (y : List ℕ) × (qualifiers r ≡ before ++ (y ++ c ∷ end) ∷ [])
 covered_ends p r end c h all covers =
     let e = ends_in p (c ∷ end) (fixed_unsplit (c ∷ end) h) in
@@ -314,7 +314,7 @@ covered_ends p r end c h all covers =
 too_long : (ys end : List ℕ) (y : ℕ) → end ≡ ys ++ y ∷ end → ⊥
 too_long ys end y e = absurd (let long : length end ≡ length ys + suc (length end) = ap length e ∙ length-append ys (y ∷ end) in omega (arith, long))
 
-same_place : (xs ys : List ℕ) (x y : ℕ) (end : List ℕ) → xs ++ x ∷ end ≡ ys ++ y ∷ end → x ≡ y
+pub same_place : (xs ys : List ℕ) (x y : ℕ) (end : List ℕ) → xs ++ x ∷ end ≡ ys ++ y ∷ end → x ≡ y
 same_place [] [] x y end e = cc
 same_place [] (z ∷ ys) x y end e = let rest : end ≡ ys ++ y ∷ end = cc in absurd (too_long ys end y rest)
 same_place (z ∷ xs) [] x y end e = let rest : end ≡ xs ++ x ∷ end = cc in absurd (too_long xs end x rest)

@@ -35,6 +35,7 @@ use Rattle.opc_policy_witness.specs.declared.forms.FormQualifier.{FormQualifier}
 use Rattle.opc_policy_witness.specs.declared.forms.FormQualifier.TheVariants.{Word, AnyUnit, AnyConsole}
 use Rattle.opc_policy_witness.specs.declared.pieces.FormPiece.{FormPiece}
 use Rattle.opc_policy_witness.specs.declared.pieces.FormPiece.TheVariants as piece
+use Rattle.opc_policy_witness.specs.Ends.{AllCover, NoneCoveredByAll}
 use Rattle.opc_policy_witness.specs.Forms.{
   AreOf,
   AreWidths,
@@ -51,7 +52,7 @@ use Rattle.opc_policy_witness.specs.Pieces.{filled, may_begin, size}
 use Rattle.opc_policy_witness.specs.Witness.{IsFinePiece, IsPlaced, IsWitness, NonePlaced, covers_parts, is_found, room}
 use Rattle.opc_policy_witness.proofs.Joining.{places_long, stands_long}
 use Rattle.opc_policy_witness.proofs.Placing.{placed_more}
-use Rattle.opc_policy_witness.proofs.Sizes.{all_spelled, cover_none, none_cover, witness_found}
+use Rattle.opc_policy_witness.proofs.Sizes.{all_cover, all_spelled, cover_none, none_cover, witness_found}
 use Rattle.opc_policy_witness.proofs.Starting.{not_covered}
 
 -- ---- what is placed behind them
@@ -197,12 +198,15 @@ module _ (form : List FormQualifier) (include : List (List ℕ)) where
   not_alone exclude r w none =
       record { of_form = w.of_form; covered = w.covered; uncovered = cover_none exclude r (ap not none) }
 
+  pub none_meet : (exclude : List (List ℕ)) → NoneCoveredByAll include → (r : List ℕ) → IsWitness form include exclude r → ⊥
+  none_meet exclude none r w = none r (all_cover include r w.covered)
+
   pub as_near : (near exclude : List (List ℕ))
-      → ((r : List ℕ) → AreOf form (qualifiers r)
+      → ((r : List ℕ) → AreOf form (qualifiers r) → AllCover include r
       → list_any (λ (q : List ℕ). covers_text q r) near ≡ list_any (λ (q : List ℕ). covers_text q r) exclude)
       → (r : List ℕ) → IsWitness form include near r → IsWitness form include exclude r
   as_near near exclude same r w = record {
     of_form = w.of_form;
     covered = w.covered;
-    uncovered = cover_none exclude r (ap not (sym (same r w.of_form)) ∙ none_cover near r w.uncovered);
+    uncovered = cover_none exclude r (ap not (sym (same r w.of_form (all_cover include r w.covered))) ∙ none_cover near r w.uncovered);
   }

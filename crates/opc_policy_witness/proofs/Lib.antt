@@ -3,6 +3,7 @@ pub mod Covering
 pub mod Differing
 pub mod Joining
 pub mod Leading
+pub mod Meeting
 pub mod Names
 pub mod Placing
 pub mod Products

@@ -7,7 +7,6 @@ use Rattle.std.proofs.Common.{
   ◌==◌,
   ◌&&◌,
   ℕ,
-  Bool,
   true,
   false,
   cond,

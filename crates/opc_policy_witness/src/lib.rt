@@ -2,7 +2,7 @@
 #![tactic(auto)]
 
 mod common;
-mod ends;
+pub mod ends;
 mod expand;
 pub mod forms;
 mod masks;

@@ -21,6 +21,7 @@ ghost use Rattle.std.specs.Prelude.{
 ghost use Rattle.std.specs.List.{AllByRecursion, list_any};
 ghost use Rattle.opc_names.specs.Names.{qualifiers};
 ghost use Rattle.opc_names.specs.Patterns.{covers_text};
+ghost use Rattle.opc_policy_witness.specs.Ends.{AllCover};
 ghost use Rattle.opc_policy_witness.specs.Forms.{
   AreOf,
   IsFine,
@@ -42,7 +43,7 @@ ghost use Rattle.opc_policy_witness.specs.Witness.{
 };
 
 use crate::common::{masks_of_all, masks_of_any};
-use crate::ends::may_end;
+use crate::ends::{all_may_share_end, may_end, near_these};
 use crate::forms::{FormQualifier, most_size, push_words};
 use crate::pieces::{FormPiece, places_of};
 use crate::search::find_any;
@@ -213,19 +214,22 @@ fn one_covers(patterns: &[Pattern], resource: &Resource) -> bool
     patterns.iter().any(|pattern| covers(pattern, resource))
 }
 
-/// Those of some patterns that may cover a resource of a form, by its words.
+/// Those of some patterns that may cover a resource of a form, by its words, and what others all cover, by their ends.
 fn near_form(
     alloc: Global,
     form: &[FormQualifier],
+    include: &[Pattern],
     patterns: &[Pattern],
 ) -> Result<Vec<Pattern>, AllocError>
     ensures { IfOk result (λ near. (resource : List ℕ) → AreOf form.now (qualifiers resource)
+        → AllCover include.now resource
         → list_any (λ (p : List ℕ). covers_text p resource) near.items
         ≡ list_any (λ (p : List ℕ). covers_text p resource) patterns.now) }
 {
     let mut words = Vec::new(alloc);
     push_words(&mut words, form)?;
-    those_may_begin(alloc, patterns, words.as_slice())
+    let near = near_these(alloc, include, patterns)?;
+    those_may_begin(alloc, near.as_slice(), words.as_slice())
 }
 
 /// The shortest resource of a form that all patterns of one list cover and none of another, if there is one.
@@ -241,6 +245,9 @@ pub fn witness(
         → IsWitness form.now include.now exclude.now other → length resource ≤ length other)) }
     ensures none { result ≡ Ok None → (resource : List ℕ) → IsWitness form.now include.now exclude.now resource → ⊥ }
 {
+    if !all_may_share_end(include) {
+        return Ok(None);
+    }
     let Some(covered) = shortest(alloc, form, include, &[])? else {
         return Ok(None);
     };
@@ -248,6 +255,6 @@ pub fn witness(
     if !one_covers(exclude, &covered) {
         return Ok(Some(covered));
     }
-    let near = near_form(alloc, form, exclude)?;
+    let near = near_form(alloc, form, include, exclude)?;
     shortest(alloc, form, include, near.as_slice())
 }

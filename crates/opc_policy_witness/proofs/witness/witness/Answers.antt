@@ -2,9 +2,13 @@ use Rattle.std.proofs.Common.{◌≤◌, ◌∙◌, ℕ, List, Ok, ap, length, s
 use Rattle.std.specs.List.{list_any}
 use Rattle.opc_names.specs.Patterns.{covers_text}
 use Rattle.opc_policy_witness.specs.Witness.{IsWitness}
-use Rattle.opc_policy_witness.proofs.Leading.{alone, as_near, not_alone}
+use Rattle.opc_policy_witness.proofs.Leading.{alone, as_near, none_meet, not_alone}
 use Rattle.opc_policy_witness.proofs.Placing.{if_mapped}
 use Rattle.opc_policy_witness.proofs.witness.witness.Goals as goal
+
+pub returns-then-not-all_may_share_end-clause-none : goal.returns-then-not-all_may_share_end-clause-none
+returns-then-not-all_may_share_end-clause-none c = λ e.
+    none_meet c.args.form.now c.args.include.now c.args.exclude.now (c.all_may_share_end.ensures c.if-not-all_may_share_end.true)
 
 pub returns-in_default-clause-none : goal.returns-in_default-clause-none
 returns-in_default-clause-none c = λ e r w.
@@ -26,7 +30,7 @@ returns-clause-found c =
     if_mapped c.shortest-2.result (IsWitness c.args.form.now c.args.include.now near)
     (IsWitness c.args.form.now c.args.include.now c.args.exclude.now)
     (as_near c.args.form.now c.args.include.now near c.args.exclude.now
-    (λ r of_form. ap (list_any (λ (q : List ℕ). covers_text q r)) c.as_slice.ensures.value ∙ c.in_ok-near.ensures r of_form))
+    (λ r of_form all. ap (list_any (λ (q : List ℕ). covers_text q r)) c.as_slice.ensures.value ∙ c.in_ok-near.ensures r of_form all))
     c.shortest-2.ensures.found
 
 pub returns-clause-shortest : goal.returns-clause-shortest
@@ -36,10 +40,10 @@ returns-clause-shortest c =
     (λ r. (other : List ℕ) → IsWitness c.args.form.now c.args.include.now near other → length r ≤ length other)
     (λ r. (other : List ℕ) → IsWitness c.args.form.now c.args.include.now c.args.exclude.now other → length r ≤ length other)
     (λ r h other w. h other (as_near c.args.form.now c.args.include.now c.args.exclude.now near
-    (λ x of_form. sym (ap (list_any (λ (q : List ℕ). covers_text q x)) c.as_slice.ensures.value ∙ c.in_ok-near.ensures x of_form)) other w))
+    (λ x of_form all. sym (ap (list_any (λ (q : List ℕ). covers_text q x)) c.as_slice.ensures.value ∙ c.in_ok-near.ensures x of_form all)) other w))
     c.shortest-2.ensures.shortest
 
 pub returns-clause-none : goal.returns-clause-none
 returns-clause-none c = λ e r w.
     c.shortest-2.ensures.none e r (as_near c.args.form.now c.args.include.now c.args.exclude.now c.as_slice.result.now
-    (λ x of_form. sym (ap (list_any (λ (q : List ℕ). covers_text q x)) c.as_slice.ensures.value ∙ c.in_ok-near.ensures x of_form)) r w)
+    (λ x of_form all. sym (ap (list_any (λ (q : List ℕ). covers_text q x)) c.as_slice.ensures.value ∙ c.in_ok-near.ensures x of_form all)) r w)

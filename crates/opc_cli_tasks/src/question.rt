@@ -29,12 +29,13 @@ pub struct MayQuestion {
     pub form: Form,
 }
 
-/// A question to `explain`, `who`, `check` or `may`.
+/// A question to `explain`, `who`, `check` or `may`; or the page that `sheet` makes.
 #[derive(Clone, Copy)]
 pub enum PolicyQuestion<'a> {
     Ask(Ask<'a>),
     Check(PolicyCheck<'a>),
     May(MayQuestion),
+    Sheet,
 }
 
 /// What changes from one policy to another, as text or as JSON.

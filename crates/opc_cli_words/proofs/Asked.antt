@@ -63,6 +63,7 @@ use Rattle.opc_cli_words.specs.Options.{
   policy_checks,
   question_checks,
   service_checks,
+  sheet_checks,
   who_checks,
 }
 use Rattle.opc_cli_words.specs.Runs.{IsLines, IsRun, run_checks}
@@ -190,6 +191,7 @@ module _ (one other : List ℕ → Option (List ℕ)) (same : (name : List ℕ) 
   task_is command (task.Ask s (question.Ask a)) is = ask command s a is
   task_is command (task.Ask s (question.Check p)) is = (is.0, policy_check s p is.1)
   task_is command (task.Ask s (question.May q)) is = (is.0, may s q is.1)
+  task_is command (task.Ask s question.Sheet) is = (is.0, source s is.1)
   task_is command (task.Diff q) is = (is.0, comparison q is.1)
   task_is command (task.Account path q) is = (is.0, is.1 ∙ given (codes "db"), account q is.2)
   task_is command (task.Work path (work.Run policy l log)) is = (is.0, sym (same (codes "db")) ∙ is.1, run policy l log is.2)
@@ -287,6 +289,9 @@ module _ (one other : List ℕ → Option (List ℕ)) (same : (name : List ℕ) 
   of_user : may_checks one ≡ may_checks other
   of_user = rw (same (codes "user"), same (codes "console"), same (codes "file"), same (codes "policy"), same (codes "db")) refl
 
+  sheets : sheet_checks one ≡ sheet_checks other
+  sheets = rw (same (codes "file"), same (codes "policy"), same (codes "db")) refl
+
   pub same_options : (command : List ℕ) → options_of one command ≡ options_of other command
   same_options command =
       chosen (bytes_eq command (codes "explain")) questions
@@ -301,7 +306,8 @@ module _ (one other : List ℕ → Option (List ℕ)) (same : (name : List ℕ) 
       (chosen (bytes_eq command (codes "commands")) refl
       (chosen (bytes_eq command (codes "may")) of_user
       (chosen (bytes_eq command (codes "diff")) refl
-      refl)))))))))))
+      (chosen (bytes_eq command (codes "sheet")) sheets
+      refl))))))))))))
 
 -- a name and rows that mean the same
 module _ {B : Type 0} (name_of : B → List ℕ) (rows_in : B → List Row) where

@@ -106,6 +106,7 @@ commands =
     ∷ command (codes "commands") []
     ∷ command (codes "may") may_options
     ∷ command (codes "diff") diff_options
+    ∷ command (codes "sheet") source_options
     ∷ []
 
 -- the program before its commands: it has a version, a command is required, missing arguments are answered with the

@@ -185,6 +185,10 @@ module _ (value : List ℕ → Option (List ℕ)) where
   abbrev pub may_checks : List Check
   may_checks = user_option ∷ console_option ∷ source_option ∷ []
 
+  -- of `sheet`,
+  abbrev pub sheet_checks : List Check
+  sheet_checks = source_option ∷ []
+
   -- and of `check`
   abbrev pub policy_checks : List Check
   policy_checks = allow_check (value (codes "allow")) ∷ source_option ∷ []

@@ -35,9 +35,11 @@ use Rattle.opc_cli_words.specs.Options.{
   policy_checks,
   question_checks,
   service_checks,
+  sheet_checks,
   who_checks,
 }
 use Rattle.opc_cli_words.specs.Runs.{IsRun, run_checks}
+use Rattle.opc_cli_words.specs.Sources.{IsSource}
 use Rattle.opc_cli_tasks.specs.declared.task.Task.{Task}
 use Rattle.opc_cli_tasks.specs.declared.task.Task.TheVariants as task
 use Rattle.opc_cli_words.specs.declared.mistake.Mistake.{Mistake}
@@ -60,6 +62,7 @@ module _ (value : List ℕ → Option (List ℕ)) where
       else if bytes_eq command (codes "commands") then []
       else if bytes_eq command (codes "may") then may_checks value
       else if bytes_eq command (codes "diff") then []
+      else if bytes_eq command (codes "sheet") then sheet_checks value
       else (wrong.NoCommand, false) ∷ []
 
   -- what a command of this name asks for
@@ -69,6 +72,8 @@ module _ (value : List ℕ → Option (List ℕ)) where
       (command ≡ codes "check") × IsPolicyCheck value source check
   IsTaskOf command (task.Ask source (question.May asked)) =
       (command ≡ codes "may") × IsMayQuestion value source asked
+  IsTaskOf command (task.Ask source question.Sheet) =
+      (command ≡ codes "sheet") × IsSource (value (codes "file")) (value (codes "policy")) (value (codes "db")) source
   IsTaskOf command (task.Diff asked) = (command ≡ codes "diff") × IsComparison value asked
   IsTaskOf command (task.Account path asked) =
       (command ≡ codes "account") × (path.now ≡ given value (codes "db")) × IsAccount value asked

@@ -22,6 +22,7 @@ use crate::account_command::account_command;
 use crate::check_command::check_command;
 use crate::diff_command::diff_command;
 use crate::question_commands::{explain_command, may_command, who_command};
+use crate::sheet::sheet_command;
 use crate::version::VERSION;
 use clap::{Arg, ArgAction, Command};
 use std::alloc::{AllocError, Global};
@@ -51,6 +52,7 @@ Ask a policy      who       who may enter a command
                   explain   why one user may, or may not
                   check     what is wrong with it
                   diff      what changes from one policy to another
+                  sheet     a page of all that (HTML)
 Run a room        run       answer a script, or a terminal (--now)
                   serve     answer over HTTP or a Unix socket
                   account   show the audit log
@@ -392,5 +394,6 @@ pub(crate) fn command_line<'a>(alloc: Global) -> Result<Command<'a>, AllocError>
         .subcommand(digest_command(alloc))?
         .subcommand(commands_command(alloc))?
         .subcommand(may_command(alloc)?)?
-        .subcommand(diff_command(alloc)?)
+        .subcommand(diff_command(alloc)?)?
+        .subcommand(sheet_command(alloc)?)
 }

@@ -22,6 +22,7 @@ mod question_commands;
 mod quotes;
 mod run;
 mod serve;
+mod sheet;
 mod slip;
 mod source;
 mod span;

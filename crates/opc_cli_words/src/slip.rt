@@ -42,12 +42,17 @@ fn has_other(words: &[String], long: &str, short: &str) -> bool {
         .any(|word| word.as_str() == long || word.as_str() == short)
 }
 
+/// Whether a command reads one policy file.
+fn takes_policy(command: &str) -> bool {
+    matches!(command, "check" | "explain" | "may" | "sheet" | "who")
+}
+
 /// What helps with the arguments of a command.
 fn help_with(command: &str, words: &[String]) -> Option<&'static [u8]> {
     match command {
         "account" if has_time_before(words) => Some(TIME),
         "account" if has_other(words, "--limit", "-n") => Some(COUNT),
-        "check" | "explain" | "may" | "who" if has_other(words, "--file", "-f") => Some(FILE),
+        _ if takes_policy(command) && has_other(words, "--file", "-f") => Some(FILE),
         _ if has_operand_apart(words) => Some(ONE_TEXT),
         // What `clap` reports says enough of any other arguments.
         _ => None,

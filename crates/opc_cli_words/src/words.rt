@@ -31,6 +31,7 @@ use crate::mistake::{Mistake, print_mistake};
 use crate::question::access_question;
 use crate::run::run;
 use crate::serve::serve;
+use crate::sheet::sheet;
 use crate::slip::note_slip;
 use crate::source::database_in;
 use crate::value::note_value;
@@ -121,6 +122,7 @@ fn asked<'a>(command: &str, chosen: &ArgMatches<'a>) -> Result<Task<'a>, Mistake
         "commands" => Ok(Task::Commands),
         "may" => may(chosen),
         "diff" => Ok(diff(chosen)),
+        "sheet" => sheet(chosen),
         // The command line has no other command.
         _ => Err(Mistake::NoCommand),
     }

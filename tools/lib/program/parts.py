@@ -24,7 +24,8 @@ from .readers import readers
 from .room import SECONDS, Ran, Room, asked
 
 HELPS = ("--help", "explain --help", "help explain", "run --help", "serve --help", "who --help", "check --help",
-         "account --help", "digest --help", "commands --help", "may --help", "diff --help")
+         "account --help", "digest --help", "commands --help", "may --help", "diff --help",
+         "sheet --help")
 # requests that leave rows in every table, with the batch
 SCRIPT = """\
 1 * JOBIN PAY JOB

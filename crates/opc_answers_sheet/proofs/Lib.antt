@@ -1,0 +1,16 @@
+mod Alike
+mod AsWho
+mod Escaping
+mod Few
+mod Found
+mod Grouping
+mod Joining
+mod Marked
+mod Nobody
+mod Parts
+mod Plain
+mod Raised
+mod Rowing
+mod Saying
+mod Standing
+mod Unnamed

@@ -1,0 +1,13 @@
+pub mod Callers
+pub mod Cells
+pub mod Changes
+pub mod Commands
+pub mod Consoles
+pub mod Escaped
+pub mod Examples
+pub mod Laws
+pub mod Marks
+pub mod Named
+pub mod Page
+pub mod Printed
+pub mod Ways

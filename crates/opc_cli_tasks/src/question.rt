@@ -29,13 +29,13 @@ pub struct MayQuestion {
     pub form: Form,
 }
 
-/// A question to `explain`, `who`, `check` or `may`; or the page that `sheet` makes.
+/// A question to `explain`, `who`, `check` or `may`; or the page that `sheet` prints, which names the policy so.
 #[derive(Clone, Copy)]
 pub enum PolicyQuestion<'a> {
     Ask(Ask<'a>),
     Check(PolicyCheck<'a>),
     May(MayQuestion),
-    Sheet,
+    Sheet(&'a str),
 }
 
 /// What changes from one policy to another, as text or as JSON.

@@ -191,7 +191,7 @@ module _ (one other : List ℕ → Option (List ℕ)) (same : (name : List ℕ) 
   task_is command (task.Ask s (question.Ask a)) is = ask command s a is
   task_is command (task.Ask s (question.Check p)) is = (is.0, policy_check s p is.1)
   task_is command (task.Ask s (question.May q)) is = (is.0, may s q is.1)
-  task_is command (task.Ask s question.Sheet) is = (is.0, source s is.1)
+  task_is command (task.Ask s (question.Sheet name)) is = (is.0, source s is.1, is.2)
   task_is command (task.Diff q) is = (is.0, comparison q is.1)
   task_is command (task.Account path q) is = (is.0, is.1 ∙ given (codes "db"), account q is.2)
   task_is command (task.Work path (work.Run policy l log)) is = (is.0, sym (same (codes "db")) ∙ is.1, run policy l log is.2)

@@ -42,6 +42,12 @@ IsSource file policy database (PolicyFile path) = (option_copied path ≡ policy
 IsSource file policy database (Database path) =
     (database ≡ Some path.now) × (file ≡ None) × (policy ≡ None)
 
+-- how a page names the policy
+abbrev pub name_of : PolicySource → List ℕ
+name_of (PolicyFile (Some path)) = path.now
+name_of (PolicyFile None) = codes "standard input"
+name_of (Database path) = path.now
+
 -- A policy that is compared: the database file behind `db:`, or else the policy file.
 abbrev pub IsNamed : List ℕ → NamedPolicy → Type 0
 IsNamed text (named.File path) = (starts_with nat_eq text (codes "db:") ≡ false) × (path.now ≡ text)

@@ -39,7 +39,7 @@ use Rattle.opc_cli_words.specs.Options.{
   who_checks,
 }
 use Rattle.opc_cli_words.specs.Runs.{IsRun, run_checks}
-use Rattle.opc_cli_words.specs.Sources.{IsSource}
+use Rattle.opc_cli_words.specs.Sources.{IsSource, name_of}
 use Rattle.opc_cli_tasks.specs.declared.task.Task.{Task}
 use Rattle.opc_cli_tasks.specs.declared.task.Task.TheVariants as task
 use Rattle.opc_cli_words.specs.declared.mistake.Mistake.{Mistake}
@@ -72,8 +72,9 @@ module _ (value : List ℕ → Option (List ℕ)) where
       (command ≡ codes "check") × IsPolicyCheck value source check
   IsTaskOf command (task.Ask source (question.May asked)) =
       (command ≡ codes "may") × IsMayQuestion value source asked
-  IsTaskOf command (task.Ask source question.Sheet) =
-      (command ≡ codes "sheet") × IsSource (value (codes "file")) (value (codes "policy")) (value (codes "db")) source
+  IsTaskOf command (task.Ask source (question.Sheet name)) = (command ≡ codes "sheet")
+      × IsSource (value (codes "file")) (value (codes "policy")) (value (codes "db")) source
+      × (name.now ≡ name_of source)
   IsTaskOf command (task.Diff asked) = (command ≡ codes "diff") × IsComparison value asked
   IsTaskOf command (task.Account path asked) =
       (command ≡ codes "account") × (path.now ≡ given value (codes "db")) × IsAccount value asked

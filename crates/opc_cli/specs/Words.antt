@@ -57,6 +57,7 @@ use Rattle.opc_cli_questions.specs.Checks.{IsReportedCheck}
 use Rattle.opc_cli_questions.specs.Differences.{IsDifference}
 use Rattle.opc_cli_questions.specs.EmptyRoom.{IsEmptyRoomNoted}
 use Rattle.opc_cli_questions.specs.May.{IsMayAnswer}
+use Rattle.opc_cli_questions.specs.Sheets.{IsFileSheet}
 use Rattle.opc_cli_questions.specs.Printed.{IsReportedBy, IsWritten, left_in}
 use Rattle.opc_cli_questions.specs.Questions.{IsQuestionAnswer}
 use Rattle.opc_cli_questions.specs.declared.sides.PolicySide.{PolicySide}
@@ -256,6 +257,9 @@ module _ {W E : Type 0} (contents : W → Option (List ℕ)) (shown : E → Opti
   IsAnsweredByFile (question.May asked) left =
       IsReportedBy contents (λ (e : Watched E). shown e.inner) (λ (e : Watched E). e.failed) before.inner
       written.inner quiet reported (IsMayAnswer asked) left status
+  IsAnsweredByFile (question.Sheet name) left =
+      IsReportedBy contents (λ (e : Watched E). shown e.inner) (λ (e : Watched E). e.failed) before.inner
+      written.inner quiet reported (IsFileSheet name.now left) left status
 
 -- `image` is what a database file holds.
 module _ {D : Type 0} (g : disk.Ghosts D) (is_fresh : Bool → D → Type 0) (image : Image) {W E : Type 0}

@@ -10,6 +10,7 @@ use opc_cli_failures::status::Status;
 use opc_cli_questions::answer::answer_question;
 use opc_cli_questions::checking::answer_check;
 use opc_cli_questions::may::answer_may;
+use opc_cli_questions::sheet::answer_sheet;
 use opc_cli_tasks::question::PolicyQuestion;
 use opc_cli_tasks::source::PolicySource;
 use opc_io::watched::Watched;
@@ -61,5 +62,8 @@ fn answer_by<R: Read, W: Write, E: Write>(
             answer_check(alloc, rt, policy, check, input, output, errors)
         }
         PolicyQuestion::May(asked) => answer_may(alloc, rt, policy, asked, input, output, errors),
+        PolicyQuestion::Sheet(name) => {
+            answer_sheet(alloc, rt, policy, name, input, output, errors)
+        }
     }
 }

@@ -7,7 +7,7 @@ use Rattle.opc_policy_members.specs.declared.row.Row.{Row}
 use Rattle.opc_state.specs.State.{empty}
 use Rattle.opc_machine.specs.Bootstrap.{bootstrapped}
 use Rattle.opc_cli_failures.specs.Statuses.{IsFailure}
-use Rattle.opc_cli_questions.specs.PolicyFiles.{AreRead, IsBadFile, IsNoPolicyFile, IsNoText, IsPolicyFile, IsRefused, IsUnread}
+use Rattle.opc_cli_questions.specs.PolicyFiles.{AreRead, AreReadFrom, IsBadFile, IsNoPolicyFile, IsNoText, IsPolicyFile, IsRefused, IsUnread}
 use Rattle.opc_check.specs.Unread.{policy_limit}
 
 whole : (n : ℕ) (all : List ℕ) → length (take (n + 1) all) ≤ n → take (n + 1) all ≡ all
@@ -36,6 +36,11 @@ pub are_read : (left : Option (List ℕ)) (bytes : List ℕ) (rows : List Row) �
 are_read None bytes rows are file = record { bytes = bytes; whole = tt; file = file }
 are_read (Some all) bytes rows are file = record { bytes = bytes; whole = same bytes all are file.fits; file = file }
 
+pub are_read_from : (left : Option (List ℕ)) (bytes : List ℕ) (rows : List Row) → AreFirst left bytes → IsPolicyFile bytes rows
+    → AreReadFrom left bytes rows
+are_read_from None bytes rows are file = record { whole = tt; file = file }
+are_read_from (Some all) bytes rows are file = record { whole = same bytes all are file.fits; file = file }
+
 refused : (left : Option (List ℕ)) (bytes : List ℕ) (fault : Fault) → AreFirst left bytes → IsNoPolicyFile bytes fault → IsRefused left fault
 refused None bytes fault are bad = record { bytes = bytes; whole = tt; no_file = bad }
 refused (Some all) bytes fault are bad = record { bytes = all; whole = refl; no_file = no_file bytes all are fault bad }
@@ -52,6 +57,11 @@ HasAll held left = IfSome held (λ bytes. left ≡ Some bytes)
 pub opened_is_read : (held left : Option (List ℕ)) (rows : List Row) → HasAll held left → AreRead left rows → AreRead held rows
 opened_is_read None left rows has read = record { bytes = read.bytes; whole = tt; file = read.file }
 opened_is_read (Some all) left rows has read = subst (λ l. AreRead l rows) has read
+
+pub opened_is_read_from : (held left : Option (List ℕ)) (bytes : List ℕ) (rows : List Row) → HasAll held left → AreReadFrom left bytes rows
+    → AreReadFrom held bytes rows
+opened_is_read_from None left bytes rows has read = record { whole = tt; file = read.file }
+opened_is_read_from (Some all) left bytes rows has read = subst (λ l. AreReadFrom l bytes rows) has read
 
 pub opened_is_unread : (held left : Option (List ℕ)) (fault : Fault) → HasAll held left → IsUnread left fault → IsUnread held fault
 opened_is_unread held left fault has (inl failed) = inl failed

@@ -6,3 +6,4 @@ pub mod Named
 mod OneRow
 pub mod Places
 pub mod Differences
+mod Sheets

@@ -17,6 +17,7 @@ use Rattle.opc_cli_questions.specs.Printed.{PrintedAnswer, IsWritten}
 use Rattle.opc_cli_questions.specs.May.{IsMayAnswer}
 use Rattle.opc_cli_questions.specs.Questions.{IsQuestionAnswer}
 use Rattle.opc_cli_questions.specs.Kinds.{kind_in, kind_or}
+use Rattle.opc_cli_questions.specs.Sheets.{IsRowsSheet}
 use Rattle.opc_cli_tasks.specs.declared.question.Ask.{Ask}
 use Rattle.opc_cli_tasks.specs.declared.question.PolicyQuestion.{PolicyQuestion}
 use Rattle.opc_cli_tasks.specs.declared.question.PolicyQuestion.TheVariants as question
@@ -37,12 +38,14 @@ abbrev pub on_board : State → PolicyQuestion → PolicyQuestion
 on_board s (question.Ask ask) = question.Ask (ask_on s ask)
 on_board s (question.Check c) = question.Check c
 on_board s (question.May asked) = question.May asked
+on_board s (question.Sheet name) = question.Sheet name
 
 -- The rows of a policy answer this. Those of an export can be loaded, so that `check` has notes on them alone.
 abbrev pub IsRowsAnswer : PolicyQuestion → List Row → Result PrintedAnswer Fault → Type 0
 IsRowsAnswer (question.Ask ask) rows answer = IsQuestionAnswer ask rows answer
 IsRowsAnswer (question.Check c) rows answer = Ok (noted c.form (option_copied c.allowed) None rows) ≡ answer
 IsRowsAnswer (question.May asked) rows answer = IsMayAnswer asked rows answer
+IsRowsAnswer (question.Sheet name) rows answer = IsRowsSheet name.now rows answer
 
 -- a state answers this to a question
 abbrev pub IsStateAnswer : State → PolicyQuestion → Result PrintedAnswer Fault → Type 0

@@ -15,4 +15,5 @@ pub mod ShownRows
 pub mod StoredNotes
 pub mod EmptyRoom
 pub mod Sides
+pub mod Sheets
 pub mod Differences

@@ -42,6 +42,11 @@ pub record AreRead (left : Option (List ℕ)) (rows : List Row) : Type 0 where
   pub whole : AreLeft left bytes
   pub file : IsPolicyFile bytes rows
 
+-- These bytes are what a reader had left, and they are the policy file of these rows.
+pub record AreReadFrom (left : Option (List ℕ)) (bytes : List ℕ) (rows : List Row) : Type 0 where
+  pub whole : AreLeft left bytes
+  pub file : IsPolicyFile bytes rows
+
 -- what a reader had left is not a policy file
 pub record IsRefused (left : Option (List ℕ)) (fault : Fault) : Type 0 where
   pub bytes : List ℕ

@@ -19,6 +19,7 @@ use crate::check_answer::noted;
 use crate::kinds::kind_on;
 use crate::may::print_asked_may;
 use crate::printing::{PrintedAnswer, print};
+use crate::sheet::print_rows_sheet;
 use opc_answers::question::{About, Question};
 use opc_cli_failures::failure::Failure;
 use opc_cli_failures::status::Status;
@@ -90,6 +91,8 @@ fn on_board<'a, T: Tables>(
             form: asked.form,
             ..*asked
         })),
+        // (The same.)
+        PolicyQuestion::Sheet(name) => Ok(PolicyQuestion::Sheet(*name)),
     }
 }
 
@@ -162,6 +165,7 @@ fn print_asked<W: Write>(
         PolicyQuestion::Ask(ask) => print_ask(alloc, rows, ask, output),
         PolicyQuestion::Check(check) => print_made(check_answer(alloc, rows, check), output),
         PolicyQuestion::May(asked) => print_asked_may(alloc, rows, asked, output),
+        PolicyQuestion::Sheet(name) => print_rows_sheet(alloc, name, rows, output),
     }
 }
 

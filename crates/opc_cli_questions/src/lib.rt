@@ -18,6 +18,7 @@ pub mod openings;
 pub mod policy_file;
 pub mod printing;
 pub mod refusals;
+pub mod sheet;
 mod shown_rows;
 pub mod sides;
 mod stored_notes;

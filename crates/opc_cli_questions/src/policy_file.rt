@@ -4,7 +4,7 @@ ghost use Rattle.std.specs.Option.{option_map};
 ghost use Rattle.opc_import.specs.Faults.{as_fault};
 ghost use Rattle.opc_cli_failures.specs.Statuses.{IsFailure};
 ghost use Rattle.opc_cli_questions.specs.Printed.{left_in};
-ghost use Rattle.opc_cli_questions.specs.PolicyFiles.{AreRead, IsNoPolicyFile, IsNoText, IsPolicyFile, IsUnread};
+ghost use Rattle.opc_cli_questions.specs.PolicyFiles.{AreRead, AreReadFrom, IsNoPolicyFile, IsNoText, IsPolicyFile, IsUnread};
 ghost use Rattle.opc_cli_questions.specs.Refusals.{line_in};
 
 use crate::openings::Openings;
@@ -132,6 +132,7 @@ fn rows_in(alloc: Global, place: Place, bytes: &[u8]) -> Result<Vec<Row>, Failur
 /// The policy file that a reader gives.
 pub fn read_rows<R: Read>(alloc: Global, place: Place, input: &mut R) -> Result<PolicyText, Failure>
     ensures rows { IfOk result (λ file. AreRead (R.remaining input.old) file.rows.items) }
+    ensures bytes { IfOk result (λ file. AreReadFrom (R.remaining input.old) file.bytes.items file.rows.items) }
     ensures fault { IfErr result (λ failure. IsUnread (R.remaining input.old) failure.fault) }
 {
     let bytes = match read_up_to(alloc, input, POLICY_LIMIT) {
@@ -151,6 +152,7 @@ pub fn read_rows_at<F: Openings>(
     path: &str,
 ) -> Result<PolicyText, Failure>
     ensures rows { IfOk result (λ file. AreRead (F.holds files.now path.now) file.rows.items) }
+    ensures bytes { IfOk result (λ file. AreReadFrom (F.holds files.now path.now) file.bytes.items file.rows.items) }
     ensures fault { IfErr result (λ failure. IsUnread (F.holds files.now path.now) failure.fault) }
 {
     match files.open_to_read(path) {
@@ -168,6 +170,8 @@ pub fn read_rows_from<F: Openings, R: Read>(
 ) -> Result<PolicyText, Failure>
     ensures rows { IfOk result (λ file. AreRead
         (left_in (F.holds files.now) (R.remaining input.old) policy.entry) file.rows.items) }
+    ensures bytes { IfOk result (λ file. AreReadFrom
+        (left_in (F.holds files.now) (R.remaining input.old) policy.entry) file.bytes.items file.rows.items) }
     ensures fault { IfErr result (λ failure. IsUnread
         (left_in (F.holds files.now) (R.remaining input.old) policy.entry) failure.fault) }
 {

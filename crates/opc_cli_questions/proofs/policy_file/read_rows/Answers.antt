@@ -1,6 +1,7 @@
 use Rattle.std.proofs.Common.{subst, sym}
 use Rattle.std.proofs.lemmas.Result.{err_from_is_err_and}
-use Rattle.opc_cli_questions.proofs.Files.{AreFirst, are_read, unread}
+use Rattle.opc_cli_questions.specs.PolicyFiles.{AreReadFrom}
+use Rattle.opc_cli_questions.proofs.Files.{AreFirst, are_read, are_read_from, unread}
 use Rattle.opc_cli_questions.proofs.policy_file.read_rows.Goals as goal
 
 pub returns-clause-rows : goal.returns-clause-rows
@@ -8,6 +9,12 @@ returns-clause-rows g c =
     let left = g.R.Read.remaining c.args.input.now in
     let first = subst (AreFirst left) (sym c.deref.ensures.value) c.in-Ok.ensures.bytes in
     are_read left c.deref.result.now _ first c.in_ok-rows.ensures.rows
+
+pub returns-clause-bytes : goal.returns-clause-bytes
+returns-clause-bytes g c =
+    let left = g.R.Read.remaining c.args.input.now in
+    let first = subst (AreFirst left) (sym c.deref.ensures.value) c.in-Ok.ensures.bytes in
+    subst (λ b. AreReadFrom left b c.in_ok-rows.rows.items) c.deref.ensures.value (are_read_from left c.deref.result.now _ first c.in_ok-rows.ensures.rows)
 
 pub returns-in_err-rows-clause-fault : goal.returns-in_err-rows-clause-fault
 returns-in_err-rows-clause-fault g c =

@@ -24,6 +24,7 @@ WITH_PROGRAM = {
     "manual": ["tools/manual"],
     "packages": ["tools/packages"],
     "sessions": ["tools/sessions"],
+    "sheet": ["tools/sheet"],
     "nginx": ["tools/nginx"],
     "fleet": ["tools/fleet"],
     "program": ["tools/program"],

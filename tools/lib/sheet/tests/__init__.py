@@ -1,0 +1,1 @@
+"""Tests of how a page is read: tools/selftest runs them."""

@@ -7,7 +7,7 @@ _opcmds() {
         return
     fi
     if ((COMP_CWORD == 1)) || [[ ${COMP_WORDS[1]} == help && $COMP_CWORD == 2 ]]; then
-        mapfile -t COMPREPLY < <(compgen -W 'who may explain check diff run serve account import export digest commands help' -- "$word")
+        mapfile -t COMPREPLY < <(compgen -W 'who may explain check diff sheet run serve account import export digest commands help' -- "$word")
         return
     fi
     if [[ $before == = ]]; then
@@ -21,6 +21,7 @@ _opcmds() {
         explain) options='--user --command --as --resource --level --class --console --json --why --policy --db --help' ;;
         check) options='--policy --db --allow --json --help' ;;
         diff) options='--json --help' ;;
+        sheet) options='--policy --db --help' ;;
         run) options='--db --policy --now --console --log --help' ;;
         serve) options='--db --port --socket --socket-mode --strict --count --timeout --log --policies --help' ;;
         account) options='--db --from --last --count --since --until --user --console --code --json --help' ;;
@@ -43,6 +44,7 @@ _opcmds() {
         "explain --user" | "explain --command" | "explain --as" | "explain --resource" | "explain --console") return ;;
         "check --allow") mapfile -t COMPREPLY < <(compgen -W 'N01 N02 N03 N04 N05 N06 N08 N09 N10 N11 N12 N13 N14 N15 N16 N17 N18 N19 N20' -- "$word"); return ;;
         "check --policy" | "check --db") compopt -o filenames; mapfile -t COMPREPLY < <(compgen -f -- "$word"); return ;;
+        "sheet --policy" | "sheet --db") compopt -o filenames; mapfile -t COMPREPLY < <(compgen -f -- "$word"); return ;;
         "run --db" | "run --policy" | "run --log") compopt -o filenames; mapfile -t COMPREPLY < <(compgen -f -- "$word"); return ;;
         "run --console") return ;;
         "serve --socket-mode") mapfile -t COMPREPLY < <(compgen -W '600 660 666' -- "$word"); return ;;
@@ -56,7 +58,7 @@ _opcmds() {
         "export --db") compopt -o filenames; mapfile -t COMPREPLY < <(compgen -f -- "$word"); return ;;
     esac
     case ${COMP_WORDS[1]} in
-        who | may | explain | check | run | import) [[ $word == -* ]] || { compopt -o filenames; mapfile -t COMPREPLY < <(compgen -f -- "$word"); return; } ;;
+        who | may | explain | check | sheet | run | import) [[ $word == -* ]] || { compopt -o filenames; mapfile -t COMPREPLY < <(compgen -f -- "$word"); return; } ;;
     esac
     # an option that was given is not given again
     for given in "${COMP_WORDS[@]:2:COMP_CWORD - 2}"; do

@@ -91,7 +91,7 @@ def same_keys(size: int) -> str:
     return "{" + ",".join('"text":"D U"' for _ in range(size)) + "}"
 
 
-# what `check`, `may` and `diff` find hardest: the titles, how many, and the patterns of names of jobs
+# what `check`, `may`, `diff` and `sheet` find hardest: the titles, how many, and the patterns of names of jobs
 TWO = ["".join(pair) + "*" for pair in itertools.product(sorted(NAME_CHARACTERS), repeat=2)]
 HARDEST = {
     "names of jobs": (5_000, [f"J{at:05}" for at in range(5_000)]),
@@ -132,7 +132,7 @@ INPUTS = {
     "check: patterns of ** and a name": Input("check", 5_000, profiles("MVS.**.J")),
     **{
         f"{work}: {title}": Input(work, size, named(patterns))
-        for work in ("check", "may", "diff") for title, (size, patterns) in HARDEST.items()
+        for work in ("check", "may", "diff", "sheet") for title, (size, patterns) in HARDEST.items()
     },
 }
 
@@ -147,6 +147,7 @@ class Inputs(Program):
             "may": lambda text: self.given(["may", "--user", "ANNA"], text),
             "diff": self.compared,
             "check": lambda text: self.given(["check"], text),
+            "sheet": lambda text: self.given(["sheet"], text),
             "script": lambda text: self.given(["run", "--policy", POLICY], text),
             "commands": lambda text: self.ours(["--policy", self.written(text)], COMMANDS),
             "first policy": lambda text: self.ours(["--policy", self.written(text)], ""),

@@ -410,6 +410,7 @@ PARTS: dict[str, Callable[[Room], None]] = {
     "may": table("may"),
     "check": table("check"),
     "diff": table("diff"),
+    "sheet": table("sheet"),
     "sources": table("sources"),
     "account": account,
     "digest": table("digest"),

@@ -9,7 +9,7 @@ MOST = {
     "explain": (16_777_216, 10_000), "first policy": (16_777_216, 10_000), "export": (16_777_216, 10_000),
     "import": (16_777_216, 10_000), "again": (16_777_216, 10_000), "script": (1_048_576, None),
     "body": (65_536, None), "account": (4, None), "commands": (16_777_216, 10_000),
-    **{work: (16_777_216, 9_999) for work in ("check", "may", "diff")},
+    **{work: (16_777_216, 9_999) for work in ("check", "may", "diff", "sheet")},
 }
 
 

@@ -13,6 +13,21 @@ use opc_board::rows::ConsoleRow;
 use opc_policy_members::policy::Policy;
 use std::alloc::{AllocError, Global};
 
+/// The line of a user, with why the user cannot log on, unless it denies anyway.
+pub fn unless_on(no_logon: Option<NoLogon>, line: UserLine) -> UserLine
+    ensures { result ≡ unless_on no_logon line }
+{
+    if is_denied(&line.ruling) {
+        return line;
+    }
+    UserLine {
+        id: line.id,
+        ruling: line.ruling,
+        held: line.held,
+        instead: off_for(no_logon),
+    }
+}
+
 /// Where users can log on: at the consoles of the board, or at one of them; or that does not count.
 #[derive(Drop)]
 pub enum Doors<'a> {
@@ -33,19 +48,14 @@ impl Doors<'_> {
         }
     }
 
-    /// The line of a user, with why the user cannot log on, unless it denies anyway.
+    /// The line of a user, with why the user cannot log on. Whom it denies anyway is not tried at each door.
     pub fn unless_on(&self, member: &UserWithGroups, line: UserLine) -> UserLine
         ensures { result ≡ unless_on (no_logon_by self.now member.now) line }
     {
         if is_denied(&line.ruling) {
             return line;
         }
-        UserLine {
-            id: line.id,
-            ruling: line.ruling,
-            held: line.held,
-            instead: off_for(self.no_logon(member)),
-        }
+        unless_on(self.no_logon(member), line)
     }
 }
 

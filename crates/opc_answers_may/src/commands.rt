@@ -1,7 +1,6 @@
 //! Which commands a user may enter, and which lines of answers are shown: by what decides, section by section.
 ghost use Rattle.std.specs.Prelude.{◌≡◌, ◌++◌, IfOk, OnOk, filter, map};
 ghost use Rattle.std.specs.Option.{option_copied};
-ghost use Rattle.opc_answers.specs.Who.{unless_on};
 ghost use Rattle.opc_answers_may.specs.Commands.{
   authority_lines,
   by_none,
@@ -21,8 +20,9 @@ ghost use Rattle.opc_answers_may.specs.Commands.{
 ghost use Rattle.opc_policy_deciders.specs.Forms.{asked};
 
 use crate::may::{May, no_logon_at};
+use opc_answers::doors::unless_on;
 use opc_answers::lines::{UserLine, is_denied, member_line};
-use opc_answers::logons::{Instead, NoLogon, off_for};
+use opc_answers::logons::{Instead, NoLogon};
 use opc_answers::members::UserWithGroups;
 use opc_answers::raised::is_raised;
 use opc_answers::room::Room;
@@ -94,21 +94,6 @@ pub(crate) fn takes(which: &FormsAsked, form: &ResourceForm) -> bool
     }
 }
 
-/// The line of a user, with why the user cannot log on, unless it denies anyway.
-fn unless_on(no_logon: &Option<NoLogon>, line: UserLine) -> UserLine
-    ensures { result ≡ unless_on no_logon.now line }
-{
-    if is_denied(&line.ruling) {
-        return line;
-    }
-    UserLine {
-        id: line.id,
-        ruling: line.ruling,
-        held: line.held,
-        instead: off_for(*no_logon),
-    }
-}
-
 /// A line of an answer is left out, if it is denied.
 fn hidden_if(is_line: bool, line: UserLine) -> UserLine
     ensures { result ≡ hidden_if is_line line }
@@ -135,7 +120,7 @@ fn said_of(
     ensures { result ≡ said_of at.now no_logon.now (option_copied decided.entry) member.now kind.now }
 {
     let line = member_line(decided, at.name(), kind.level, member);
-    hidden_if(kind.is_line, unless_on(no_logon, line))
+    hidden_if(kind.is_line, unless_on(*no_logon, line))
 }
 
 fn kind_line(

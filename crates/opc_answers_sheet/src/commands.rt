@@ -26,9 +26,10 @@ ghost use Rattle.opc_answers_sheet.specs.Examples.{names_of};
 
 use crate::callers::Caller;
 use crate::cells::{row_text, users_at};
-use crate::everywhere::{everywhere_text, unless_on};
+use crate::everywhere::everywhere_text;
 use crate::examples::{first_need, names_of};
 use opc_answers::deciding::deciding;
+use opc_answers::doors::unless_on;
 use opc_answers::lines::{UserLine, member_line, or_authority};
 use opc_answers::logons::{Door, Instead, NoLogon};
 use opc_answers::members::UserWithGroups;

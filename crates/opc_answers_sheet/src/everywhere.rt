@@ -3,7 +3,7 @@ ghost use Rattle.std.specs.Prelude.{◌≡◌, false, IfOk, None, Some, map, str
 ghost use Rattle.std.specs.Option.{option_copied};
 ghost use Rattle.opc_names.specs.declared.class.Class.TheVariants.{Opercmds};
 ghost use Rattle.opc_answers.specs.Deciding.{decider};
-ghost use Rattle.opc_answers.specs.Who.{unless_on, users_of};
+ghost use Rattle.opc_answers.specs.Who.{users_of};
 ghost use Rattle.opc_answers_sheet.specs.Callers.{callers_of};
 ghost use Rattle.opc_answers_sheet.specs.Cells.{users_at};
 ghost use Rattle.opc_answers_sheet.specs.Commands.{said_everywhere, who_about};
@@ -13,8 +13,9 @@ use crate::callers::Caller;
 use crate::cells::users_at;
 use crate::marks::marks_in;
 use crate::named::{is_called, lets_others};
-use opc_answers::lines::{UserLine, is_denied, member_line};
-use opc_answers::logons::{Instead, NoLogon, off_for};
+use opc_answers::doors::unless_on;
+use opc_answers::lines::{UserLine, member_line};
+use opc_answers::logons::{Instead, NoLogon};
 use opc_answers::room::Room;
 use opc_names::level::Level;
 use opc_names::name::ConsoleName;
@@ -24,21 +25,6 @@ use opc_policy_sources::sources::{HeldLevel, LevelSource};
 use opc_terms::need::Need;
 use opc_terms::rule::Rule;
 use std::alloc::{AllocError, Global};
-
-/// A line, with why its user cannot log on, unless it denies anyway.
-pub(crate) fn unless_on(no_logon: Option<NoLogon>, line: UserLine) -> UserLine
-    ensures { result ≡ unless_on no_logon line }
-{
-    if is_denied(&line.ruling) {
-        return line;
-    }
-    UserLine {
-        id: line.id,
-        ruling: line.ruling,
-        held: line.held,
-        instead: off_for(no_logon),
-    }
-}
 
 /// What is said of a user, wherever the user is logged on.
 fn said_everywhere(decided: Option<&Profile>, level: Level, caller: &Caller<'_>) -> UserLine

@@ -252,14 +252,17 @@ fits_all (cell ∷ mask) [] e h = absurd (omega (arith, e))
 fits_all (None ∷ mask) (c ∷ s) e h = fits_all mask s (omega (arith, e)) h
 fits_all (Some a ∷ mask) (c ∷ s) e h = cc
 
+pub takes_fits : (count : ℕ) (mask : List (Option ℕ)) (s : List ℕ) → count ≡ length s → takes_all count mask ≡ true → fits mask s ≡ true
+takes_fits count mask s e h =
+    let takes = both (length mask == count) (list_all is_none mask) h in
+    fits_all mask s (same_of (length mask) count takes.0 ∙ e) takes.1
+
 one_fits_all : (count : ℕ) (masks : List (List (Option ℕ))) (s : List ℕ) → count ≡ length s
     → list_any (takes_all count) masks ≡ true → fits_one masks s ≡ true
 one_fits_all count [] s e h = cc
 one_fits_all count (mask ∷ masks) s e h =
     elim (either (takes_all count mask) (list_any (takes_all count) masks) h) [
-      | inl first ↦
-          let takes = both (length mask == count) (list_all is_none mask) first in
-          or_left (fits mask s) (fits_one masks s) (fits_all mask s (same_of (length mask) count takes.0 ∙ e) takes.1)
+      | inl first ↦ or_left (fits mask s) (fits_one masks s) (takes_fits count mask s e first)
       | inr rest ↦ or_right (fits mask s) (fits_one masks s) (one_fits_all count masks s e rest)
     ] where
       either : (a b : Bool) → (a || b) ≡ true → (a ≡ true) ⊎ (b ≡ true)

@@ -265,9 +265,26 @@ any_more f ps i p h at =
     ap (list_any f) (take_more ps i p h) ∙ ap (λ x. list_any f (take i ps ++ x ∷ [])) (sym at)
     ∙ list_any-append f (take i ps) (p ∷ []) ∙ ap (λ b. list_any f (take i ps) || b) (or_false (f p))
 
+-- one of the first covers
+pub one_of_first : (f : List ℕ → Bool) (ps : List (List ℕ)) (n : ℕ) → list_any f (take n ps) ≡ true → list_any f ps ≡ true
+one_of_first f ps zero h = cc
+one_of_first f [] (suc n) h = h
+one_of_first f (p ∷ ps) (suc n) h = go (f p) h (one_of_first f ps n)
+  where
+    go : (b : Bool) → (b || list_any f (take n ps)) ≡ true → (list_any f (take n ps) ≡ true → list_any f ps ≡ true)
+        → (b || list_any f ps) ≡ true
+    go true k later = refl
+    go false k later = later k
+
+-- so a pattern that covers whatever there is ends them
+pub covered_by_last : (f : List ℕ → Bool) (ps : List (List ℕ)) (i : ℕ) (p : List ℕ) (fit : Bool) → i < length ps → p ≡ get_or ps i p
+    → fit ≡ true → fit ≡ (list_any f (take i ps) || f p) → fit ≡ list_any f ps
+covered_by_last f ps i p fit low at fits is =
+    fits ∙ sym (one_of_first f ps (i + 1) (any_more f ps i p low at ∙ sym is ∙ fits))
+
 -- ---- one of the masks
 
-fits_at : (masks : Masks) (i : ℕ) (one : Vec (Option ℕ) Global) (s : List ℕ) → i < length masks → one ≡ get_or masks i one
+pub fits_at : (masks : Masks) (i : ℕ) (one : Vec (Option ℕ) Global) (s : List ℕ) → i < length masks → one ≡ get_or masks i one
     → fits one.items s ≡ true → fits_vec masks s ≡ true
 fits_at [] i one s h at is = absurd (omega (arith, h))
 fits_at (m ∷ masks) zero one s h at is = rw (ap (λ (v : Vec (Option ℕ) Global). fits v.items s) (sym at) ∙ is) refl

@@ -24,7 +24,7 @@ ghost use Rattle.opc_policy_witness.specs.Pieces.{filled, size};
 ghost use Rattle.opc_policy_witness.specs.Witness.{covers_parts};
 
 use crate::expand::{add_masks, with_open};
-use crate::masks::Mask;
+use crate::masks::{Mask, takes_all};
 use crate::pieces::{FormPiece, size_of};
 use opc_names::name::Pattern;
 use std::alloc::{AllocError, Global};
@@ -100,6 +100,16 @@ fn products(
     Ok(all)
 }
 
+/// Whether the last of some masks fits each name of so many characters.
+fn last_takes_all(masks: &[Vec<Option<u8>>], count: usize) -> bool
+    ensures { result ≡ true → (s : List ℕ) → length s ≡ count → fits_one (map (λ m. m.items) masks.now) s ≡ true }
+{
+    match masks {
+        [.., mask] => takes_all(mask.as_slice(), count),
+        [] => false,
+    }
+}
+
 /// The masks of one pattern or another: the names that fit one are those of the resources that one covers.
 pub(crate) fn masks_of_any(
     alloc: Global,
@@ -110,6 +120,7 @@ pub(crate) fn masks_of_any(
     ensures { IfOk result (λ masks. (s : List ℕ) → length s ≡ size pieces.now
         → fits_one (map (λ m. m.items) masks.items) s ≡ list_any (covers_parts (filled pieces.now s)) patterns.now) }
 {
+    let length = size_of(pieces);
     let mut masks = Vec::new(alloc);
     for pattern in patterns {
         add_masks(
@@ -119,6 +130,10 @@ pub(crate) fn masks_of_any(
             pieces,
             &mut masks,
         )?;
+        // Each name fits this mask, whatever the other patterns cover.
+        if last_takes_all(masks.as_slice(), length) {
+            return Ok(masks);
+        }
     }
     Ok(masks)
 }

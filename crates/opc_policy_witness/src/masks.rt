@@ -98,7 +98,8 @@ fn asks_nothing(mask: Mask<'_>) -> bool
     }
 }
 
-fn takes_all(mask: Mask<'_>, count: usize) -> bool
+/// Whether a mask fits each name of so many characters.
+pub(crate) fn takes_all(mask: Mask<'_>, count: usize) -> bool
     ensures { result ≡ takes_all count mask.now }
 {
     mask.len() == count && asks_nothing(mask)

@@ -1,5 +1,6 @@
 mod Alike
 mod AsWho
+mod Decided
 mod Escaping
 mod Few
 mod Found

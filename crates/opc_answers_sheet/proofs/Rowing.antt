@@ -13,7 +13,7 @@ pub row_so : (first first' : List ℕ) (decided decided' : Option Profile) (user
     → users ≡ users' → row_text first decided users ≡ row_text first' decided' users'
 row_so first first' decided decided' users users' a b c = cc
 
-some_so : (a b : Need) → Some a ≡ Some b → a ≡ b
+pub some_so : (a b : Need) → Some a ≡ Some b → a ≡ b
 some_so a b e = cc
 
 -- that of a kind, by what its first form needs

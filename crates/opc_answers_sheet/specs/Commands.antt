@@ -9,11 +9,13 @@ use Rattle.std.specs.Prelude.{
   Option,
   Some,
   None,
+  IfSome,
   codes,
   flat_map,
   map,
 }
-use Rattle.std.specs.List.{join_by, slice_get}
+use Rattle.std.specs.List.{AllByRecursion, join_by, slice_get}
+use Rattle.opc_names.specs.declared.class.Class.TheVariants.{Opercmds}
 use Rattle.opc_names.specs.declared.level.Level.{Level}
 use Rattle.opc_terms.specs.declared.need.Need.{Need}
 use Rattle.opc_policy_members.specs.declared.policy.Policy.{Policy}
@@ -28,6 +30,7 @@ use Rattle.opc_answers.specs.declared.lines.UserLine.{UserLine}
 use Rattle.opc_answers.specs.declared.members.UserWithGroups.{UserWithGroups}
 use Rattle.opc_answers.specs.declared.who.AskedAt.TheVariants.{Everywhere, OnBoard}
 use Rattle.opc_answers.specs.declared.who.Who.{Who}
+use Rattle.opc_answers.specs.Deciding.{decider}
 use Rattle.opc_answers.specs.Logons.{Door, no_logon}
 use Rattle.opc_answers.specs.Who.{
   line_wanted,
@@ -74,6 +77,10 @@ asked_row names who = row_text (names_cell names) who.decided (decided_text who.
 abbrev pub command_row : Policy → BoardRows → List Example → List ℕ
 command_row p b [] = []
 command_row p b (example ∷ more) = asked_row (names_of (example ∷ more)) (who_about p b (need_of example))
+
+-- the profile, or none, that decides all that is found
+abbrev pub DecidesAll : Policy → (decided : Option Profile) → (found : List (Option (List ℕ))) → Type 0
+DecidesAll p decided found = AllByRecursion (λ one. IfSome one (λ resource. decided ≡ decider p Opercmds resource)) found
 
 -- the rows of what decides: one for each kind of which a form has a resource that it decides
 abbrev pub kind_row : Policy → BoardRows → (found : List (Option (List ℕ))) → AskedKind → List ℕ

@@ -10,6 +10,7 @@ ghost use Rattle.opc_answers.specs.Who.{named};
 ghost use Rattle.opc_answers_sheet.specs.Callers.{callers_of};
 ghost use Rattle.opc_answers_sheet.specs.Commands.{
   AreRowsAt,
+  DecidesAll,
   asked_row,
   console_text,
   decided_text,
@@ -28,15 +29,14 @@ use crate::callers::Caller;
 use crate::cells::{row_text, users_at};
 use crate::everywhere::everywhere_text;
 use crate::examples::{first_need, names_of};
-use opc_answers::deciding::deciding;
 use opc_answers::doors::unless_on;
 use opc_answers::lines::{UserLine, member_line, or_authority};
 use opc_answers::logons::{Door, Instead, NoLogon};
 use opc_answers::members::UserWithGroups;
 use opc_answers::raised::named;
 use opc_answers::room::Room;
+use opc_answers_may::commands::profile_at;
 use opc_board::rows::ConsoleRow;
-use opc_names::class::Class;
 use opc_names::name::{ConsoleName, Pattern, Resource};
 use opc_policy::ruling::Ruling;
 use opc_policy_deciders::decided::decided_at;
@@ -200,15 +200,16 @@ fn asked_row(
     alloc: Global,
     room: &Room,
     callers: &[Caller<'_>],
+    decided: Option<&Profile>,
     names: &[&str],
     need: &Need,
 ) -> Result<String, AllocError>
     requires members { room.now.members ≡ members_of room.now.policy }
     requires callers { callers.now ≡ callers_of room.now.policy room.now.board }
+    requires decided { option_copied decided ≡ decider room.now.policy Opercmds need.now.resource }
     ensures { IfOk result (λ row. string_bytes row ≡ asked_row (map (λ name. name.now) names.now)
         (who_about room.now.policy room.now.board need.now)) }
 {
-    let decided = deciding(&room.policy, Class::Opercmds, &need.resource);
     let names = names_cell(alloc, names)?;
     let users = decided_text(alloc, room, callers, decided, need)?;
     row_text(alloc, names.as_str(), decided, users.as_str())
@@ -219,18 +220,20 @@ fn kind_row(
     alloc: Global,
     room: &Room,
     callers: &[Caller<'_>],
+    decided: Option<&Profile>,
     found: &[Option<Resource>],
     kind: &AskedKind,
 ) -> Result<String, AllocError>
     requires members { room.now.members ≡ members_of room.now.policy }
     requires callers { callers.now ≡ callers_of room.now.policy room.now.board }
+    requires decided { DecidesAll room.now.policy (option_copied decided) found.now }
     ensures { IfOk result (λ row. string_bytes row ≡ kind_row room.now.policy room.now.board found.now kind.now) }
 {
     let Some(need) = first_need(kind, found) else {
         return Ok(String::new(alloc));
     };
     let names = names_of(alloc, kind, found)?;
-    asked_row(alloc, room, callers, names.as_slice(), &need)
+    asked_row(alloc, room, callers, decided, names.as_slice(), &need)
 }
 
 /// The rows of these kinds.
@@ -238,17 +241,19 @@ fn kind_rows(
     alloc: Global,
     room: &Room,
     callers: &[Caller<'_>],
+    decided: Option<&Profile>,
     found: &[Option<Resource>],
     kinds: &[AskedKind],
 ) -> Result<String, AllocError>
     requires members { room.now.members ≡ members_of room.now.policy }
     requires callers { callers.now ≡ callers_of room.now.policy room.now.board }
+    requires decided { DecidesAll room.now.policy (option_copied decided) found.now }
     ensures { IfOk result (λ rows. string_bytes rows
         ≡ flat_map (kind_row room.now.policy room.now.board found.now) kinds.now) }
 {
     let mut text = String::new(alloc);
     for kind in kinds {
-        text.push_str(kind_row(alloc, room, callers, found, kind)?.as_str())?;
+        text.push_str(kind_row(alloc, room, callers, decided, found, kind)?.as_str())?;
     }
     Ok(text)
 }
@@ -257,16 +262,19 @@ fn rows_of(
     alloc: Global,
     room: &Room,
     callers: &[Caller<'_>],
+    decided: Option<&Profile>,
     found: &[Option<Resource>],
 ) -> Result<String, AllocError>
     requires members { room.now.members ≡ members_of room.now.policy }
     requires callers { callers.now ≡ callers_of room.now.policy room.now.board }
+    requires decided { DecidesAll room.now.policy (option_copied decided) found.now }
     ensures { IfOk result (λ rows. string_bytes rows ≡ rows_of room.now.policy room.now.board found.now) }
 {
-    kind_rows(alloc, room, callers, found, &KINDS)
+    kind_rows(alloc, room, callers, decided, found, &KINDS)
 }
 
-/// The rows of the profile at this place of all, or at their end of what no profile decides.
+/// The rows of the profile at this place of all, or at their end of what no profile decides. It is not looked for by
+/// what it decides, which would take as long as there are profiles.
 pub fn rows_at(
     alloc: Global,
     room: &Room,
@@ -281,5 +289,6 @@ pub fn rows_at(
     ensures { IfOk result (λ rows. AreRowsAt room.now.policy room.now.board place (string_bytes rows)) }
 {
     let found = decided_at(alloc, &room.policy, patterns, place)?;
-    rows_of(alloc, room, callers, found.as_slice())
+    let decided = profile_at(&room.policy, patterns, place);
+    rows_of(alloc, room, callers, decided, found.as_slice())
 }

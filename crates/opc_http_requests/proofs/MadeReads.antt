@@ -45,12 +45,9 @@ use Rattle.opc_io.specs.Reads.{AreReads, Reads, ReadsInto, ReadsOnly}
 use Rattle.opc_io.proofs.Reading.{begins, more-reads, no-reads}
 use Rattle.opc_http_requests.specs.Head.{FoundHead, HasHead, MayLook, NoHead}
 use Rattle.opc_http_requests.proofs.HeadLemmas.{first-bytes}
-use Rattle.opc_http_requests.specs.declared.origins.Origins.{Origins}
-use Rattle.opc_http_requests.specs.Asked.{MayRead, StopsAtEnd, looked_through, request_length}
 use Rattle.opc_http_requests.specs.Bodies.{MayFill}
-use Rattle.opc_http_requests.specs.declared.plan.Plan.{Plan}
-use Rattle.opc_http_requests.specs.Plans.{plan_in}
-use Rattle.opc_http_requests.proofs.Requester.{head-plan, one-head}
+use Rattle.opc_http_requests.specs.Messages.{MayReadMessage, StopsAtMessage, looked_through, message_length}
+use Rattle.opc_http_requests.proofs.Requester.{one-head}
 
 -- a head that is there is there, whatever follows
 has-more : (bytes more : List ℕ) (head : RequestHead) → HasHead bytes head → HasHead (bytes ++ more) head
@@ -87,39 +84,38 @@ short-of-head all before rest head is has none low = elim (cases_Bool (nat_lt (l
 ]
 
 -- the rest of the body of a head may be read once the head is there
-body-may : (origins : Origins) (buf : List ℕ) (headers : List HeaderSpan) (spans : RequestSpans) (plan : Plan)
-    → FoundHead buf buf headers spans → plan_in origins buf headers spans ≡ Ok plan
-    → (moved : List ℕ) (count : ℕ) → MayFill (spans.len + plan.length) (buf ++ moved) count → MayRead origins (buf ++ moved) count
-body-may origins buf headers spans plan found is moved count fill =
-    let planned = sym (head-plan origins buf buf headers spans found) ∙ is in
-    let long : spans.len + plan.length ≡ request_length origins found.head = rw (planned, found.parts.len) refl in
+body-may : (length_of : RequestHead → ℕ) (buf : List ℕ) (headers : List HeaderSpan) (spans : RequestSpans) (n : ℕ)
+    → (found : FoundHead buf buf headers spans) → n ≡ length_of found.head
+    → (moved : List ℕ) (count : ℕ) → MayFill (spans.len + n) (buf ++ moved) count → MayReadMessage length_of (buf ++ moved) count
+body-may length_of buf headers spans n found is moved count fill =
+    let long : spans.len + n ≡ message_length length_of found.head = rw (is, found.parts.len) refl in
     inr (record { head = found.head; has = has-more buf moved found.head found.has; body = subst (λ (n : ℕ). MayFill n (buf ++ moved) count) long fill })
 
-module _ (origins : Origins) {S : Type 0} (left : S → Option (List ℕ)) (gives : S → List ℕ → S → Type 0) where
+module _ (length_of : RequestHead → ℕ) {S : Type 0} (left : S → Option (List ℕ)) (gives : S → List ℕ → S → Type 0) where
   -- the reads that look for a head may be made for a request
-  looked : (first last : S) (bytes : List ℕ) → Reads left gives MayLook first [] last bytes → Reads left gives (MayRead origins) first [] last bytes
-  looked first last bytes reads = more-reads left gives (MayRead origins) MayLook first first [] []
-      (no-reads left gives (MayRead origins) first []) (λ moved count may. inl may) reads.count last bytes reads.are
+  looked : (first last : S) (bytes : List ℕ) → Reads left gives MayLook first [] last bytes → Reads left gives (MayReadMessage length_of) first [] last bytes
+  looked first last bytes reads = more-reads left gives (MayReadMessage length_of) MayLook first first [] []
+      (no-reads left gives (MayReadMessage length_of) first []) (λ moved count may. inl may) reads.count last bytes reads.are
 
   pub looked-only : {A E : Type 0} (first last : S) (buf : List ℕ) (result : Result A E)
-      → ReadsInto left gives MayLook first [] last buf result → ReadsOnly left gives (MayRead origins) first [] last
+      → ReadsInto left gives MayLook first [] last buf result → ReadsOnly left gives (MayReadMessage length_of) first [] last
   looked-only first last buf result into = record { bytes = into.bytes; reads = looked first last into.bytes into.reads }
 
   -- and those for a body, once its head is there
-  pub body-only : (first mid last : S) (buf bytes : List ℕ) (headers : List HeaderSpan) (spans : RequestSpans) (plan : Plan)
-      → Reads left gives MayLook first [] mid bytes → buf ≡ bytes → FoundHead buf buf headers spans → plan_in origins buf headers spans ≡ Ok plan
-      → ReadsOnly left gives (MayFill (spans.len + plan.length)) mid buf last → ReadsOnly left gives (MayRead origins) first [] last
-  body-only first mid last buf bytes headers spans plan reads same found is body =
-      let head : Reads left gives (MayRead origins) first [] mid buf =
+  pub body-only : (first mid last : S) (buf bytes : List ℕ) (headers : List HeaderSpan) (spans : RequestSpans) (n : ℕ)
+      → Reads left gives MayLook first [] mid bytes → buf ≡ bytes → (found : FoundHead buf buf headers spans) → n ≡ length_of found.head
+      → ReadsOnly left gives (MayFill (spans.len + n)) mid buf last → ReadsOnly left gives (MayReadMessage length_of) first [] last
+  body-only first mid last buf bytes headers spans n reads same found is body =
+      let head : Reads left gives (MayReadMessage length_of) first [] mid buf =
       looked first mid buf (subst (λ (t : List ℕ). Reads left gives MayLook first [] mid t) (sym same) reads) in
       record {
         bytes = body.bytes;
-        reads = more-reads left gives (MayRead origins) (MayFill (spans.len + plan.length)) first mid [] buf head
-            (body-may origins buf headers spans plan found is) body.reads.count last body.bytes body.reads.are;
+        reads = more-reads left gives (MayReadMessage length_of) (MayFill (spans.len + n)) first mid [] buf head
+            (body-may length_of buf headers spans n found is) body.reads.count last body.bytes body.reads.are;
       }
 
   -- without a head no more is read than a head may have
-  few-headless : (first last : S) (all rest bytes : List ℕ) (n : ℕ) → AreReads left gives (MayRead origins) first [] n last bytes
+  few-headless : (first last : S) (all rest bytes : List ℕ) (n : ℕ) → AreReads left gives (MayReadMessage length_of) first [] n last bytes
       → all ≡ bytes ++ rest → NoHead all → length bytes ≤ 8192
   few-headless first last all rest bytes zero are is none = let empty : length bytes ≡ 0 = ap length are.1 in omega (arith, empty)
   few-headless first last all rest bytes (suc n) (mid, before, given, are, inl look, gave, made) is none = let within =
@@ -130,8 +126,8 @@ module _ (origins : Origins) {S : Type 0} (left : S → Option (List ℕ)) (give
 
   -- with one, no more than finds it or has its body
   few-headed : (first last : S) (all rest bytes : List ℕ) (head : RequestHead) (n : ℕ)
-      → AreReads left gives (MayRead origins) first [] n last bytes → all ≡ bytes ++ rest → HasHead all head
-      → length bytes ≤ max (looked_through head) (request_length origins head)
+      → AreReads left gives (MayReadMessage length_of) first [] n last bytes → all ≡ bytes ++ rest → HasHead all head
+      → length bytes ≤ max (looked_through head) (message_length length_of head)
   few-headed first last all rest bytes head zero are is has = let empty : length bytes ≡ 0 = ap length are.1 in omega (arith, empty)
   few-headed first last all rest bytes head (suc n) (mid, before, given, are, inl look, gave, made) is has =
       let whole : all ≡ before ++ (given ++ rest) = is ∙ ap (λ (t : List ℕ). t ++ rest) made ∙ append_assoc before given rest in
@@ -143,13 +139,13 @@ module _ (origins : Origins) {S : Type 0} (left : S → Option (List ℕ)) (give
   few-headed first last all rest bytes head (suc n) (mid, before, given, are, inr body, gave, made) is has =
       let whole : all ≡ before ++ (given ++ rest) = is ∙ ap (λ (t : List ℕ). t ++ rest) made ∙ append_assoc before given rest in
       let there : HasHead all body.head = subst (λ (t : List ℕ). HasHead t body.head) (sym whole) (has-more before (given ++ rest) body.head body.has) in
-      let same : request_length origins body.head ≡ request_length origins head = ap (request_length origins) (one-head all body.head head there has) in
+      let same : message_length length_of body.head ≡ message_length length_of head = ap (message_length length_of) (one-head all body.head head there has) in
       let within = body.body.within in
       omega (arith, within, same, ap length made, length-append before given)
 
   stops-known : (first last : S) (known after : Option (List ℕ)) (bytes : List ℕ) (n : ℕ)
-      → AreReads left gives (MayRead origins) first [] n last bytes → Consumes known after bytes
-      → IfSome known (λ all. StopsAtEnd origins all after)
+      → AreReads left gives (MayReadMessage length_of) first [] n last bytes → Consumes known after bytes
+      → IfSome known (λ all. StopsAtMessage length_of all after)
   stops-known first last None after bytes n are c = tt
   stops-known first last (Some all) None bytes n are c = absurd c
   stops-known first last (Some all) (Some rest) bytes n are c = record {
@@ -158,8 +154,9 @@ module _ (origins : Origins) {S : Type 0} (left : S → Option (List ℕ)) (give
   }
 
   -- so no read goes past the end of the body, except the last one that looks for the head
-  pub stops : (first last : S) → ReadsOnly left gives (MayRead origins) first [] last → IfSome (left first) (λ all. StopsAtEnd origins all (left last))
+  pub stops : (first last : S) → ReadsOnly left gives (MayReadMessage length_of) first [] last
+      → IfSome (left first) (λ all. StopsAtMessage length_of all (left last))
   stops first last only =
-      let made = begins left gives (MayRead origins) first [] only.reads.count last only.bytes only.reads.are in
+      let made = begins left gives (MayReadMessage length_of) first [] only.reads.count last only.bytes only.reads.are in
       stops-known first last (left first) (left last) only.bytes only.reads.count only.reads.are
       (subst (λ (t : List ℕ). Consumes (left first) (left last) t) (sym made.is) made.consumes)

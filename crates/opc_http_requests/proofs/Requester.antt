@@ -43,7 +43,7 @@ use Rattle.opc_http_requests.specs.declared.origins.Origins.{Origins}
 use Rattle.opc_http_requests.specs.declared.refusal.HttpRefusal.{HttpRefusal}
 use Rattle.opc_http_requests.specs.declared.refusal.HttpRefusal.TheVariants.{BadRequest}
 use Rattle.opc_http_requests.specs.declared.refusal.InvalidPart.TheVariants.{Head}
-use Rattle.opc_http_requests.specs.Asked.{Asks, AsksOnly}
+use Rattle.opc_http_requests.specs.Asked.{Asks, AsksOnly, body_length_of}
 use Rattle.opc_http_requests.specs.Faults.{IfRefused, by_asking}
 use Rattle.opc_http_requests.specs.Paths.{path_in}
 use Rattle.opc_http_requests.specs.Plans.{plan_in, plan_of}
@@ -79,6 +79,11 @@ module _ (origins : Origins) where
   pub head-plan : (all buf : List ℕ) (headers : List HeaderSpan) (spans : RequestSpans) (f : FoundHead all buf headers spans)
       → plan_in origins buf headers spans ≡ plan_of origins f.head.method f.head.target (map name_and_value f.head.fields)
   head-plan all buf headers spans f = rw (f.parts.method, f.parts.path, f.parts.fields) refl
+
+  -- and with it how long the body is
+  pub planned-length : (buf : List ℕ) (headers : List HeaderSpan) (spans : RequestSpans) (plan : Plan) (f : FoundHead buf buf headers spans)
+      → plan_in origins buf headers spans ≡ Ok plan → plan.length ≡ body_length_of origins f.head
+  planned-length buf headers spans plan f is = let planned = sym (head-plan buf buf headers spans f) ∙ is in rw planned refl
 
   -- the plan is a refusal
   pub asks-refused : (known : Option (List ℕ)) (buf : List ℕ) (headers : List HeaderSpan) (spans : RequestSpans) (why : HttpRefusal)

@@ -1,15 +1,14 @@
 -- What the bytes of a connection ask for, and how many of them are read.
-use Rattle.std.specs.Prelude.{◌≡◌, ◌+◌, ◌⊎◌, ℕ, List, drop, length, map, max, min, Option, Some, Result, Ok, Err}
+use Rattle.std.specs.Prelude.{◌≡◌, ◌⊎◌, ℕ, List, drop, length, map, Option, Result, Ok, Err}
 use Rattle.httparse.specs.Grammar.{RequestHead, print_request}
 use Rattle.httparse.specs.Spans.{name_and_value}
 use Rattle.opc_machine.specs.declared.request.Request.{Request}
-use Rattle.opc_io.specs.Reads.{TakesAtMost}
-use Rattle.opc_http_requests.specs.Head.{HasHead, MayLook, NoHead}
+use Rattle.opc_http_requests.specs.Head.{HasHead, NoHead}
 use Rattle.opc_http_requests.specs.declared.origins.Origins.{Origins}
 use Rattle.opc_http_requests.specs.declared.refusal.HttpRefusal.{HttpRefusal}
 use Rattle.opc_http_requests.specs.declared.refusal.HttpRefusal.TheVariants.{BadRequest}
 use Rattle.opc_http_requests.specs.declared.refusal.InvalidPart.TheVariants.{Head}
-use Rattle.opc_http_requests.specs.Bodies.{MayFill}
+use Rattle.opc_http_requests.specs.Messages.{MayReadMessage, StopsAtMessage}
 use Rattle.opc_http_requests.specs.Plans.{plan_of}
 use Rattle.opc_http_requests.specs.Requests.{request_of}
 use Rattle.opc_http_requests.specs.declared.plan.Plan.{Plan}
@@ -18,11 +17,6 @@ use Rattle.opc_http_requests.specs.declared.plan.Plan.{Plan}
 abbrev pub body_part : Result Plan HttpRefusal → ℕ
 body_part (Ok plan) = plan.length
 body_part (Err why) = 0
-
--- how many bytes are read at most to find a head: the last read is made before its last byte is there, and gives at
--- most 1,024
-abbrev pub looked_through : RequestHead → ℕ
-looked_through head = min 8192 (length (print_request head) + 1023)
 
 -- if requests are accepted from there
 module _ (origins : Origins) where
@@ -41,23 +35,14 @@ module _ (origins : Origins) where
     pub asks : Asks all asked
     pub only : (other : Result Request HttpRefusal) → Asks all other → other ≡ asked
 
-  -- how many bytes head and body have; of a head that is refused no body is read
-  abbrev pub request_length : RequestHead → ℕ
-  request_length head = length (print_request head) + body_part
-      (plan_of origins head.method head.target (map name_and_value head.fields))
+  -- how many bytes of a body are read after a head; of one that is refused no body is read
+  abbrev pub body_length_of : RequestHead → ℕ
+  body_length_of head = body_part (plan_of origins head.method head.target (map name_and_value head.fields))
 
-  -- A read of the body may be made if its head is there and the body is not, and ends with the body.
-  pub record MayReadBody (before : List ℕ) (count : ℕ) : Type 0 where
-    pub head : RequestHead
-    pub has : HasHead before head
-    pub body : MayFill (request_length head) before count
-
-  -- when a read may be made, by the bytes before it and how many it gives: to look for the head, or for the body
+  -- when a read may be made, by the bytes before it and how many it gives
   abbrev pub MayRead : List ℕ → ℕ → Type 0
-  MayRead before count = MayLook before count ⊎ MayReadBody before count
+  MayRead before count = MayReadMessage body_length_of before count
 
   -- No read goes past the end of the body, except the last one of those that look for the head.
-  pub record StopsAtEnd (all : List ℕ) (after : Option (List ℕ)) : Type 0 where
-    pub headless : NoHead all → TakesAtMost 8192 (Some all) after
-    pub headed : (head : RequestHead) → HasHead all head
-        → TakesAtMost (max (looked_through head) (request_length head)) (Some all) after
+  abbrev pub StopsAtEnd : (all : List ℕ) (after : Option (List ℕ)) → Type 0
+  StopsAtEnd all after = StopsAtMessage body_length_of all after

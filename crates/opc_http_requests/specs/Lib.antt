@@ -9,6 +9,7 @@ pub mod Operations
 pub mod BodyValues
 pub mod Bodies
 pub mod Faults
+pub mod Messages
 pub mod Laws
 pub mod Paths
 pub mod Plans

@@ -29,10 +29,9 @@ abbrev pub method_text : Method → List ℕ
 method_text Get = codes "GET"
 method_text Post = codes "POST"
 
--- the request has its route's method
-abbrev pub has_method : List ℕ → Route → Result Unit HttpRefusal
-has_method method route = if bytes_eq method (method_text (method_of route)) then Ok tt else Err
-    (MethodNotAllowed (method_of route))
+-- the request has the one method of its path
+abbrev pub has_method : (name : List ℕ) → Method → Result Unit HttpRefusal
+has_method name method = if bytes_eq name (method_text method) then Ok tt else Err (MethodNotAllowed method)
 
 -- the route and the length of the body, or the first refusal: that it is not accepted from there comes first
 abbrev pub plan_of : Origins → (method target : List ℕ) → (fields : List FieldLine) → Result Plan HttpRefusal
@@ -40,7 +39,7 @@ plan_of origins method target fields = do
   _ ← admitted origins fields
   path ← path_in target
   route ← route_in path
-  _ ← has_method method route
+  _ ← has_method method (method_of route)
   length ← body_length fields
   Ok (record { route = route; length = length })
 

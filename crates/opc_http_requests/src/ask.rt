@@ -41,7 +41,7 @@ use opc_rows::Rows;
 use std::alloc::Global;
 
 /// The most fields of a head.
-const MOST_FIELDS: usize = 32;
+pub const MOST_FIELDS: usize = 32;
 
 // What a route asks for at a console.
 fn request_by(

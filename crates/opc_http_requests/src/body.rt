@@ -6,7 +6,7 @@ ghost use Rattle.opc_http_requests.specs.Bodies.{MayFill, ReadsTo};
 use opc_io::source::{Source, SourceFault, read_more};
 
 /// Reads until `buf` has this many bytes, and no further; returns whether it has them before the source ends.
-pub(crate) fn read_to<S: Source>(
+pub fn read_to<S: Source>(
     source: &mut S,
     buf: &mut Vec<u8>,
     length: usize,

@@ -22,8 +22,8 @@ pub(crate) fn is_named(found: &[u8], name: &[u8]) -> bool
     found.eq_ignore_ascii_case(name)
 }
 
-// The value of the only field of a name, if there is one. Several are refused like several lengths.
-pub(crate) fn only_value(
+/// The value of the only field of a name, if there is one. Several are refused like several lengths.
+pub fn only_value(
     buf: &[u8],
     headers: &[HeaderSpan],
     name: &[u8],

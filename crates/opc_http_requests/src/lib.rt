@@ -2,7 +2,7 @@
 #![tactic(auto)]
 
 pub mod ask;
-mod body;
+pub mod body;
 pub mod body_key;
 pub mod body_values;
 pub mod fault;
@@ -14,6 +14,6 @@ pub mod number;
 mod operation;
 pub mod origins;
 mod path;
-mod plan;
+pub mod plan;
 pub mod refusal;
 pub mod routes;

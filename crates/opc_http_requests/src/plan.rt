@@ -35,11 +35,10 @@ fn method_text(method: Method) -> &'static str
     }
 }
 
-// Checks that a request has its route's method.
-fn has_method(name: &[u8], route: Route) -> Result<(), HttpRefusal>
-    ensures { result ≡ has_method name.now route }
+/// Checks that a request has the one method of its path.
+pub fn has_method(name: &[u8], method: Method) -> Result<(), HttpRefusal>
+    ensures { result ≡ has_method name.now method }
 {
-    let method = method_of(route);
     if name == method_text(method).as_bytes() {
         Ok(())
     } else {
@@ -62,7 +61,7 @@ fn plan_of(
     admitted(routes.origins(), buf, headers)?;
     let path = path_in(target)?;
     let route = route_in(routes, path)?;
-    has_method(method, route)?;
+    has_method(method, method_of(route))?;
     let length = body_length(buf, headers)?;
     Ok(Plan { route, length })
 }

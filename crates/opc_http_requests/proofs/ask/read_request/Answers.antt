@@ -3,10 +3,10 @@ use Rattle.std.specs.Prelude.{IfSome}
 use Rattle.std.proofs.lemmas.Result.{IfOk-weaker, err_from_is_err_and}
 use Rattle.httparse.specs.Spans.{span_bytes}
 use Rattle.opc_http_requests.specs.Head.{FoundHead, NoHead}
-use Rattle.opc_http_requests.specs.Asked.{AsksOnly}
+use Rattle.opc_http_requests.specs.Asked.{AsksOnly, body_length_of}
 use Rattle.opc_http_requests.specs.Plans.{plan_in}
 use Rattle.opc_http_requests.specs.Requests.{planned}
-use Rattle.opc_http_requests.proofs.Requester.{asks-headless, asks-planned, asks-refused, fault-weaker, none-found, some-found, takes-whole}
+use Rattle.opc_http_requests.proofs.Requester.{asks-headless, asks-planned, asks-refused, fault-weaker, none-found, planned-length, some-found, takes-whole}
 use Rattle.opc_http_requests.proofs.MadeReads.{body-only, looked-only, stops}
 use Rattle.opc_http_requests.proofs.ask.read_request.Goals as goal
 
@@ -62,22 +62,22 @@ returns-clause-refused g c =
     plan failed) c.read_planned.ensures.refused
 
 pub returns-in_err-spans-clause-reads : goal.returns-in_err-spans-clause-reads
-returns-in_err-spans-clause-reads g c = looked-only c.args.routes.now g.S.Source.left g.S.Source.gives _ _ _ _ c.read_head.ensures.reads
+returns-in_err-spans-clause-reads g c = looked-only (body_length_of c.args.routes.now) g.S.Source.left g.S.Source.gives _ _ _ _ c.read_head.ensures.reads
 
 pub returns-in_err-spans-clause-stops : goal.returns-in_err-spans-clause-stops
-returns-in_err-spans-clause-stops g c = stops c.args.routes.now g.S.Source.left g.S.Source.gives _ _ (returns-in_err-spans-clause-reads g c)
+returns-in_err-spans-clause-stops g c = stops (body_length_of c.args.routes.now) g.S.Source.left g.S.Source.gives _ _ (returns-in_err-spans-clause-reads g c)
 
 pub returns-in_default-clause-reads : goal.returns-in_default-clause-reads
-returns-in_default-clause-reads g c = looked-only c.args.routes.now g.S.Source.left g.S.Source.gives _ _ _ _ c.in_ok-spans.ensures.reads
+returns-in_default-clause-reads g c = looked-only (body_length_of c.args.routes.now) g.S.Source.left g.S.Source.gives _ _ _ _ c.in_ok-spans.ensures.reads
 
 pub returns-in_default-clause-stops : goal.returns-in_default-clause-stops
-returns-in_default-clause-stops g c = stops c.args.routes.now g.S.Source.left g.S.Source.gives _ _ (returns-in_default-clause-reads g c)
+returns-in_default-clause-stops g c = stops (body_length_of c.args.routes.now) g.S.Source.left g.S.Source.gives _ _ (returns-in_default-clause-reads g c)
 
 pub returns-in_err-plan-clause-reads : goal.returns-in_err-plan-clause-reads
-returns-in_err-plan-clause-reads g c = looked-only c.args.routes.now g.S.Source.left g.S.Source.gives _ _ _ _ c.in_ok-spans.ensures.reads
+returns-in_err-plan-clause-reads g c = looked-only (body_length_of c.args.routes.now) g.S.Source.left g.S.Source.gives _ _ _ _ c.in_ok-spans.ensures.reads
 
 pub returns-in_err-plan-clause-stops : goal.returns-in_err-plan-clause-stops
-returns-in_err-plan-clause-stops g c = stops c.args.routes.now g.S.Source.left g.S.Source.gives _ _ (returns-in_err-plan-clause-reads g c)
+returns-in_err-plan-clause-stops g c = stops (body_length_of c.args.routes.now) g.S.Source.left g.S.Source.gives _ _ (returns-in_err-plan-clause-reads g c)
 
 pub returns-clause-reads : goal.returns-clause-reads
 returns-clause-reads g c =
@@ -90,11 +90,13 @@ returns-clause-reads g c =
     let found = rw c.in-Some.is at c.in_ok-spans.ensures.found in
     let plan = subst (λ (t : List ℕ). plan_in c.args.routes.now t headers spans ≡ Ok c.in_ok-plan.plan) c.as_slice.ensures.value
     (sym c.in_ok-plan.ensures.plan) in
-    body-only c.args.routes.now left gives c.args.source.now c.read_head.new.source c.read_planned.new.source buf looked.bytes headers
-    spans c.in_ok-plan.plan looked.reads looked.buffer found plan c.read_planned.ensures.reads
+    let long = planned-length c.args.routes.now buf headers spans c.in_ok-plan.plan found plan in
+    body-only (body_length_of c.args.routes.now) left gives c.args.source.now c.read_head.new.source c.read_planned.new.source buf
+    looked.bytes headers spans c.in_ok-plan.plan.length looked.reads looked.buffer found long c.read_planned.ensures.reads
 
 pub returns-clause-stops : goal.returns-clause-stops
-returns-clause-stops g c = stops c.args.routes.now g.S.Source.left g.S.Source.gives c.args.source.now c.read_planned.new.source (returns-clause-reads g c)
+returns-clause-stops g c =
+    stops (body_length_of c.args.routes.now) g.S.Source.left g.S.Source.gives c.args.source.now c.read_planned.new.source (returns-clause-reads g c)
 
 pub returns-clause-most : goal.returns-clause-most
 returns-clause-most g c =

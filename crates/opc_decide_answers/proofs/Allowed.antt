@@ -3,17 +3,28 @@ use Rattle.std.proofs.Common.{◌≡◌, ◌<◌, ◌↔◌, ℕ, true, false, L
 use Rattle.opc_terms.specs.declared.fault.Fault.{Fault}
 use Rattle.opc_terms.specs.declared.fault.Fault.TheVariants.{Missing}
 use Rattle.opc_terms.specs.declared.rule.Rule.{Rule}
+use Rattle.opc_policy_members.specs.declared.row.Row.{Row}
+use Rattle.opc_state.specs.State.{State, empty}
+use Rattle.opc_machine.specs.Bootstrap.{bootstrapped}
 use Rattle.opc_policy.specs.declared.verdict.Verdict.{Verdict}
 use Rattle.opc_policy.specs.declared.verdict.Verdict.TheVariants.{Allowed, Denied, Undecided}
 use Rattle.opc_answers.specs.declared.logons.Instead.{Instead}
 use Rattle.opc_answers.specs.declared.logons.Instead.TheVariants.{Hidden, NoDigest, NoLogon}
 use Rattle.opc_answers.specs.declared.why.Explanation.{Explanation}
-use Rattle.opc_answers.specs.Answers.{why_answer}
+use Rattle.opc_answers.specs.declared.question.Question.{Question}
+use Rattle.opc_answers.specs.Answers.{answer_of, why_answer}
 use Rattle.opc_answers.specs.Why.{ruling_in, said_verdict, why_in}
+use Rattle.opc_decide_requests.specs.AccessQuestions.{AsksFor}
+use Rattle.opc_decide_requests.specs.declared.question.AccessQuestion.{AccessQuestion}
 use Rattle.opc_decide_answers.specs.declared.decision.AccessDecision.TheVariants.{Said}
 use Rattle.opc_decide_answers.specs.DecisionLaws.{IsSaid, PermitsWhatIsAllowed}
 use Rattle.opc_decide_answers.specs.Decisions.{decision_by, permits, unknown}
-use Rattle.opc_decide_answers.proofs.Explained.{answers_why}
+
+-- A question that is read is answered by an explanation.
+answers_why : (rows : List Row) (s : State) (asked : AccessQuestion) (q : Question)
+    → bootstrapped rows empty ≡ Ok s → AsksFor asked q
+    → answer_of q rows ≡ why_answer (why_in s false asked.wanted asked.actor asked.console)
+answers_why rows s asked q loaded asks = rw (asks.wanted, loaded, asks.asks, asks.console) refl
 
 -- a word that begins with a later letter than A
 apart : (n : ℕ) → 65 < n → n ≡ 65 → ⊥

@@ -1,3 +1,3 @@
 pub mod Allowed
-pub mod Explained
+pub mod Depths
 pub mod NoFloats

@@ -5,7 +5,7 @@ use Rattle.serde_json.specs.Data.{Data}
 use Rattle.serde_json.specs.View.{items_of}
 use Rattle.serde_json.specs.Written.{has_float, items_have_float}
 use Rattle.opc_answers.specs.Json.{text_or_null}
-use Rattle.opc_decide_requests.specs.AccessQuestions.{AccessAsked}
+use Rattle.opc_decide_requests.specs.declared.question.AccessQuestion.{AccessQuestion}
 use Rattle.opc_decide_requests.specs.Evaluations.{ends_with}
 use Rattle.opc_decide_requests.specs.Requests.{element_question}
 use Rattle.opc_decide_requests.specs.declared.evaluations.EvaluationSemantics.{EvaluationSemantics}
@@ -22,7 +22,7 @@ or_null (Some text) = refl
 pub decision_so : (policy : List ℕ) (d : AccessDecision) → has_float (decision_value policy d) ≡ false
 decision_so policy d = rw (or_null (decision_rule d)) refl
 
-element_so : (p : NamedState) (r : Result AccessAsked RequestFault) → has_float (element_value p r) ≡ false
+element_so : (p : NamedState) (r : Result AccessQuestion RequestFault) → has_float (element_value p r) ≡ false
 element_so p (Ok asked) = decision_so p.name (decision_of p.state asked)
 element_so p (Err why) = refl
 

@@ -8,7 +8,7 @@ use Rattle.opc_answers.specs.declared.why.Explanation.{Explanation}
 use Rattle.opc_answers.specs.Json.{rule_words}
 use Rattle.opc_answers.specs.Texts.{allows, verdict_word}
 use Rattle.opc_answers.specs.Why.{ruling_in, why_in}
-use Rattle.opc_decide_requests.specs.AccessQuestions.{AccessAsked}
+use Rattle.opc_decide_requests.specs.declared.question.AccessQuestion.{AccessQuestion}
 use Rattle.opc_decide_answers.specs.declared.decision.AccessDecision.{AccessDecision}
 use Rattle.opc_decide_answers.specs.declared.decision.AccessDecision.TheVariants.{NoConsole, NoUser, Said}
 
@@ -30,7 +30,7 @@ abbrev pub decision_by : Result Explanation Fault → AccessDecision
 decision_by (Ok why) = said why
 decision_by (Err fault) = unknown fault
 
-abbrev pub decision_of : State → AccessAsked → AccessDecision
+abbrev pub decision_of : State → AccessQuestion → AccessDecision
 decision_of s asked = decision_by (why_in s false asked.wanted asked.actor asked.console)
 
 -- Access is permitted if it is allowed, be it by a warning alone, and nothing is said in the place of that.

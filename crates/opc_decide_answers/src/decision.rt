@@ -52,7 +52,7 @@ fn unknown(fault: &Fault) -> AccessDecision
 pub fn decision_of(
     alloc: Global,
     policy: &DecidingPolicy,
-    question: &AccessQuestion<'_>,
+    question: &AccessQuestion,
 ) -> Result<AccessDecision, AllocError>
     ensures { IfOk result (λ decision. decision ≡ decision_of policy.now.state question.now) }
 {
@@ -98,7 +98,7 @@ impl AccessDecision {
     }
 
     /// The rule that decided, or `null`.
-    pub(crate) fn rule(&self, alloc: Global) -> Result<Value, AllocError>
+    pub fn rule(&self, alloc: Global) -> Result<Value, AllocError>
         ensures { IfOk result (λ value. view value ≡ text_or_null (decision_rule self.now)) }
     {
         match self {

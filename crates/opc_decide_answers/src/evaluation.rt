@@ -1,13 +1,15 @@
 //! The answers to the questions of a request.
-ghost use Rattle.std.specs.Prelude.{◌≡◌, IfOk, map};
+ghost use Rattle.std.specs.Prelude.{◌≡◌, IfOk, Some, map};
 ghost use Rattle.serde_json.specs.Data.{array};
+ghost use Rattle.serde_json.specs.Read.{read};
 ghost use Rattle.serde_json.specs.View.{items_of, view};
 ghost use Rattle.opc_decide_requests.specs.Requests.{element_question};
+ghost use Rattle.opc_decide_answers.specs.DecisionValues.{decision_value};
 ghost use Rattle.opc_decide_answers.specs.Evaluated.{
   answers,
+  decision_reply,
   element_permits,
   element_value,
-  evaluation,
   evaluation_in,
   evaluations,
   evaluations_in,
@@ -15,7 +17,7 @@ ghost use Rattle.opc_decide_answers.specs.Evaluated.{
   list_reply,
 };
 
-use crate::decision::decision_of;
+use crate::decision::{AccessDecision, decision_of};
 use crate::policy::DecidingPolicy;
 use crate::reply::{DecideReply, bad, done};
 use crate::values::{decision_value, fault_value};
@@ -28,8 +30,21 @@ use opc_terms::rule::Rule;
 use serde_json::{Value, json};
 use std::alloc::{AllocError, Global};
 
-/// The answer to one question.
-#[tactic(auto, using(crate::proofs::NoFloats::decision_so))]
+/// What is answered to one question. It reads as what is decided.
+#[tactic(auto, using(crate::proofs::NoFloats::decision_so, crate::proofs::Depths::decision_shallow))]
+pub fn decision_reply(
+    alloc: Global,
+    policy: &DecidingPolicy,
+    decision: &AccessDecision,
+) -> Result<DecideReply, AllocError>
+    ensures is { IfOk result (λ reply. reply ≡ decision_reply policy.now decision.now) }
+    ensures reads { IfOk result (λ reply. read reply.body ≡ Some (decision_value policy.now.name decision.now)) }
+{
+    let value = decision_value(alloc, policy, decision)?;
+    done(alloc, &value)
+}
+
+/// The answer to a body that asks one question.
 fn evaluation_in(
     alloc: Global,
     policy: &DecidingPolicy,
@@ -40,26 +55,12 @@ fn evaluation_in(
     // Named for the prover, which otherwise does not find the types of a decision.
     let (_no_rule, _no_ruling): (Option<Rule>, Option<Ruling>) = (None, None);
     let (_off, _instead): (Option<NoLogon>, Option<Instead>) = (None, None);
-    let question = match request_question(body) {
-        Ok(question) => question,
-        Err(why) => return bad(alloc, &why),
-    };
-    let decision = decision_of(alloc, policy, &question)?;
-    let value = decision_value(alloc, policy, &decision)?;
-    done(alloc, &value)
-}
-
-/// The answer to a body that asks one question.
-pub fn evaluation(
-    alloc: Global,
-    policy: &DecidingPolicy,
-    body: &[u8],
-) -> Result<DecideReply, AllocError>
-    ensures { IfOk result (λ reply. reply ≡ evaluation policy.now body.now) }
-{
-    match value_in(alloc, body)? {
-        Some(value) => evaluation_in(alloc, policy, &value),
-        None => bad(alloc, &RequestFault::NotJson),
+    match request_question(body) {
+        Ok(question) => {
+            let decision = decision_of(alloc, policy, &question)?;
+            decision_reply(alloc, policy, &decision)
+        }
+        Err(why) => bad(alloc, &why),
     }
 }
 

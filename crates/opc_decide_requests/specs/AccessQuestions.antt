@@ -27,17 +27,12 @@ use Rattle.opc_decide_requests.specs.declared.context.AccessContext.{AccessConte
 use Rattle.opc_decide_requests.specs.declared.fault.RequestFault.{RequestFault}
 use Rattle.opc_decide_requests.specs.declared.fault.RequestFault.TheVariants.{Invalid, Missing, NeedsNothing, NoCommand}
 use Rattle.opc_decide_requests.specs.declared.key.RequestKey.TheVariants as key
+use Rattle.opc_decide_requests.specs.declared.question.AccessQuestion.{AccessQuestion}
 use Rattle.opc_decide_requests.specs.declared.subject.AccessSubject.{AccessSubject}
 use Rattle.opc_decide_requests.specs.declared.subject.AccessSubject.TheVariants.{Console, User}
 
--- what is wanted, by whom, or by nobody, and at which console, if one is named
-pub record AccessAsked : Type 0 where
-  pub wanted : Wanted
-  pub actor : Option (List ℕ)
-  pub console : Option (List ℕ)
-
 -- as `explain` asks it, without the level that is held behind each pattern
-pub record AsksFor (asked : AccessAsked) (q : Question) : Type 0 where
+pub record AsksFor (asked : AccessQuestion) (q : Question) : Type 0 where
   pub wanted : wanted_of q.about q.console ≡ Ok (Some asked.wanted)
   pub asks : q.asks ≡ Why asked.actor false
   pub console : q.console ≡ asked.console
@@ -50,23 +45,18 @@ needed (Ok None) = Err NeedsNothing
 needed (Err NoConsole) = Err (Missing key.Console)
 needed (Err fault) = Err (NoCommand fault)
 
-abbrev pub asking : Result (Option Wanted) Fault → (actor console : Option (List ℕ)) → Result AccessAsked RequestFault
-asking found actor console = do
-  w ← needed found
-  Ok (record { wanted = w; actor = actor; console = console })
-
 abbrev pub being_kind : (wanted kind : List ℕ) → Result Unit RequestFault
 being_kind wanted kind = if bytes_eq kind wanted then Ok tt else Err (Invalid key.ResourceType)
 
 -- a level of access to a resource of a class
-abbrev pub access_asked : Level → (kind id : List ℕ) → (actor console : Option (List ℕ)) → Result AccessAsked RequestFault
+abbrev pub access_asked : Level → (kind id : List ℕ) → (actor console : Option (List ℕ)) → Result AccessQuestion RequestFault
 access_asked level kind id actor console = do
   class ← ok_or (lookup classes kind) (Invalid key.ResourceType)
   resource ← ok_or (name_of resource_rule id) (Invalid key.ResourceId)
   Ok (record { wanted = wanted.Access class resource level; actor = actor; console = console })
 
 -- a LOGON at a console, which is the resource
-abbrev pub logon_asked : (kind id : List ℕ) → (actor console : Option (List ℕ)) → Result AccessAsked RequestFault
+abbrev pub logon_asked : (kind id : List ℕ) → (actor console : Option (List ℕ)) → Result AccessQuestion RequestFault
 logon_asked kind id actor console = do
   _ ← being_kind (codes "CONSOLE") kind
   name ← ok_or (name_of console_rule id) (Invalid key.ResourceId)
@@ -79,21 +69,22 @@ command_wanted text taken console = if is_logon text then logon_at console else
     wanted_by (need_in text taken) (unit_in text taken) (line_in text)
 
 abbrev pub command_asked : (kind id : List ℕ) → UnitKindAt → (actor console : Option (List ℕ))
-    → Result AccessAsked RequestFault
+    → Result AccessQuestion RequestFault
 command_asked kind id taken actor console = do
   _ ← being_kind (codes "command") kind
-  asking (command_wanted id taken console) actor console
+  w ← needed (command_wanted id taken console)
+  Ok (record { wanted = w; actor = actor; console = console })
 
 -- an action on a resource
 abbrev pub question_about : AccessAction → (kind id : List ℕ) → (actor : Option (List ℕ)) → AccessContext
-    → Result AccessAsked RequestFault
+    → Result AccessQuestion RequestFault
 question_about (Have level) kind id actor context = access_asked level kind id actor context.console
 question_about Logon kind id actor context = logon_asked kind id actor context.console
 question_about Enter kind id actor context = command_asked kind id context.taken actor context.console
 
 -- asked by a subject: at a console where nobody is logged on, only commands are entered
 abbrev pub by_nobody : (name : List ℕ) → AccessAction → (kind id : List ℕ) → AccessContext
-    → Result AccessAsked RequestFault
+    → Result AccessQuestion RequestFault
 by_nobody name Enter kind id context = do
   _ ← being_at name context.console
   command_asked kind id context.taken None (Some name)
@@ -101,12 +92,12 @@ by_nobody name (Have level) kind id context = Err (Invalid key.SubjectType)
 by_nobody name Logon kind id context = Err (Invalid key.SubjectType)
 
 abbrev pub question_for : AccessSubject → AccessAction → (kind id : List ℕ) → AccessContext
-    → Result AccessAsked RequestFault
+    → Result AccessQuestion RequestFault
 question_for (User id) action kind name context = question_about action kind name (Some id) context
 question_for (Console console) action kind name context = by_nobody console action kind name context
 
 -- with the resource and the context of an element, or else with those that all elements share
-abbrev pub question_by : AccessSubject → AccessAction → (element shared : Data) → Result AccessAsked RequestFault
+abbrev pub question_by : AccessSubject → AccessAction → (element shared : Data) → Result AccessQuestion RequestFault
 question_by subject action element shared = do
   resource ← object_at key.Resource element shared
   kind ← text_at key.ResourceType resource
@@ -115,7 +106,7 @@ question_by subject action element shared = do
   question_for subject action kind id context
 
 -- the question of an element; what it does not have is what all elements share
-abbrev pub question_of : (element shared : Data) → Result AccessAsked RequestFault
+abbrev pub question_of : (element shared : Data) → Result AccessQuestion RequestFault
 question_of element shared = do
   subject ← subject_at element shared
   action ← action_at element shared

@@ -8,6 +8,7 @@ use crate::fault::RequestFault;
 use crate::key::RequestKey;
 use crate::parts::being_object;
 use crate::question::{AccessQuestion, question_of};
+use opc_terms::fault::Fault;
 use serde_json::Value;
 use serde_json::error::Category;
 use std::alloc::{AllocError, Global};
@@ -39,20 +40,21 @@ pub fn being_body(body: &Value) -> Result<(), RequestFault>
 }
 
 /// The question that a body is.
-pub fn request_question<'a>(body: &'a Value) -> Result<AccessQuestion<'a>, RequestFault>
-    ensures { result ≡ request_question (view body.entry.now) }
+pub fn request_question(body: &Value) -> Result<AccessQuestion, RequestFault>
+    ensures { result ≡ request_question (view body.now) }
 {
+    // Named for the prover, which otherwise does not find the type of a command's fault.
+    let _no_fault: Option<Fault> = None;
     being_body(body)?;
     question_of(body, body)
 }
 
 /// The question of one of several elements.
-pub fn element_question<'a>(
-    element: &'a Value,
-    shared: &'a Value,
-) -> Result<AccessQuestion<'a>, RequestFault>
-    ensures { result ≡ element_question (view element.entry.now) (view shared.entry.now) }
+pub fn element_question(element: &Value, shared: &Value) -> Result<AccessQuestion, RequestFault>
+    ensures { result ≡ element_question (view element.now) (view shared.now) }
 {
+    // Named for the prover, which otherwise does not find the type of a command's fault.
+    let _no_fault: Option<Fault> = None;
     being_object(element, RequestKey::Evaluations)?;
     question_of(element, shared)
 }

@@ -49,7 +49,7 @@ impl RequestKey {
     }
 
     /// The same after the key of its object, if that has one.
-    pub(crate) fn path(self) -> &'static str
+    pub fn path(self) -> &'static str
         ensures { result.now ≡ key_path self }
     {
         match self {

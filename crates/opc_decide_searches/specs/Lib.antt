@@ -1,0 +1,5 @@
+pub mod Candidates
+pub mod Found
+pub mod Pages
+pub mod SearchReplies
+pub mod Searches

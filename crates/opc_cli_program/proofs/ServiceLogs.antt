@@ -8,6 +8,7 @@ use Rattle.opc_state.specs.Meaning.{Meaning}
 use Rattle.opc_machine.specs.declared.request.Request.{Request}
 use Rattle.opc_http_connections.specs.Links.{Link}
 use Rattle.opc_http_requests.specs.declared.origins.Origins.{Origins}
+use Rattle.opc_http_requests.specs.Asked.{MayRead}
 use Rattle.opc_http_log.specs.declared.entry.LogEntry.{LogEntry}
 use Rattle.opc_http.specs.Exchange.{Reply}
 use Rattle.opc_http.specs.Told.{IsEntry, IsTold}
@@ -57,13 +58,13 @@ module _ (origins : Origins) {T : Type 0} (m : Meaning T) where
         → ServesClients link origins (IsServiceExchange held has_failed holds writes publishes origins m) comes timer timeout old count end new
         → ServesClients link origins (IsLineAdded held has_failed origins) comes timer timeout old.trail.log count end new.trail.log
     logged (Ok all) are =
-        all_served {D = ⊤} link (λ _ _. ⊤) origins (IsServiceExchange held has_failed holds writes publishes origins m)
+        all_served {D = ⊤} link (λ _ _. ⊤) (MayRead origins) (IsServiceExchange held has_failed holds writes publishes origins m)
         (IsLineAdded held has_failed origins) (λ s. s.trail.log)
         (λ was left moment before after ended is one.
         line_added left was.gate is.gate moment before after ended held has_failed one.entry was.trail.log is.trail.log one.logged)
         (λ _ handles _. comes handles) (λ _ _ _. ⊤) timer timeout tt old count tt new (Ok all) are
     logged {B = B} (Err fault) cut =
-        cut_short {D = ⊤} link (λ _ _. ⊤) origins (IsServiceExchange held has_failed holds writes publishes origins m)
+        cut_short {D = ⊤} link (λ _ _. ⊤) (MayRead origins) (IsServiceExchange held has_failed holds writes publishes origins m)
         (IsLineAdded held has_failed origins) (λ s. s.trail.log)
         (λ was left moment before after ended is one.
         line_added left was.gate is.gate moment before after ended held has_failed one.entry was.trail.log is.trail.log one.logged)

@@ -8,6 +8,7 @@ use Rattle.opc_state.specs.Meaning.{Meaning}
 use Rattle.opc_state.specs.State.{State}
 use Rattle.opc_http_connections.specs.Links.{Link}
 use Rattle.opc_http_requests.specs.declared.origins.Origins.{Origins}
+use Rattle.opc_http_requests.specs.Asked.{MayRead}
 use Rattle.opc_http_log.specs.declared.entry.LogEntry.{LogEntry}
 use Rattle.opc_http.specs.declared.exchanging.LinkFault.{LinkFault}
 use Rattle.opc_http.specs.declared.exchanging.Served.{Served}
@@ -75,11 +76,11 @@ module _ {T K N A : Type 0} (held : K → Option (List ℕ)) (has_failed : K →
 
   module _ {C G : Type 0} (link : Link C G) (comes : Result (Option (C × C)) Error → Type 0) (timer : G) (timeout : Option Duration) where
     turn : (met last : Unit {0}) (was new : Service T K N)
-        → IsTurn link (λ _ _. ⊤) origins (by_bytes (IsServiceExchange held has_failed holds writes publishes origins m)) {D = ⊤}
+        → IsTurn link (λ _ _. ⊤) (MayRead origins) (by_bytes (IsServiceExchange held has_failed holds writes publishes origins m)) {D = ⊤}
         (λ _ handles _. comes handles) (λ _ _ _. ⊤) timer timeout met was last new
         → (m.is_sure new.gate → m.is_sure was.gate) × (m.is_sure new.gate → (s : State) → m.represents was.gate s
         → (t : State) × m.represents new.gate t
-        × IsTurn link (λ _ _. ⊤) origins (by_bytes (IsPolicyExchange holds writes publishes held has_failed origins)) {D = ⊤}
+        × IsTurn link (λ _ _. ⊤) (MayRead origins) (by_bytes (IsPolicyExchange holds writes publishes held has_failed origins)) {D = ⊤}
         (λ _ handles _. comes handles) (λ _ _ _. ⊤) timer timeout met (s, was.trail) last (t, new.trail))
     turn met last was new (inl client) = (
       client.served.made.exchanged.sure,
@@ -113,11 +114,11 @@ module _ {T K N A : Type 0} (held : K → Option (List ℕ)) (has_failed : K →
 
     module _ (old : Service T K N) where
       served : (n : ℕ) (last : Unit {0}) (new : Service T K N)
-          → AreServed link (λ _ _. ⊤) origins (by_bytes (IsServiceExchange held has_failed holds writes publishes origins m)) {D = ⊤}
+          → AreServed link (λ _ _. ⊤) (MayRead origins) (by_bytes (IsServiceExchange held has_failed holds writes publishes origins m)) {D = ⊤}
           (λ _ handles _. comes handles) (λ _ _ _. ⊤) timer timeout tt old n last new
           → m.is_sure new.gate → (s : State) → m.represents old.gate s
           → (t : State) × m.represents new.gate t
-          × AreServed link (λ _ _. ⊤) origins (by_bytes (IsPolicyExchange holds writes publishes held has_failed origins)) {D = ⊤}
+          × AreServed link (λ _ _. ⊤) (MayRead origins) (by_bytes (IsPolicyExchange holds writes publishes held has_failed origins)) {D = ⊤}
           (λ _ handles _. comes handles) (λ _ _ _. ⊤) timer timeout tt (s, old.trail) n last (t, new.trail)
       served zero last new are sure s h = (
         s,

@@ -58,8 +58,12 @@ pub enum LinkFault {
     NoMemory { handled: bool },
 }
 
-// Writes a response.
-fn respond<K: Sink>(sink: &mut K, response: &Response, handled: bool) -> Result<Served, LinkFault>
+/// Writes a response.
+pub fn respond<K: Sink>(
+    sink: &mut K,
+    response: &Response,
+    handled: bool,
+) -> Result<Served, LinkFault>
     ensures served { IfOk result (λ served. (served.status ≡ response.now.status) × (served.handled ≡ handled)) }
     ensures whole { OnOk result (Appends (K.held sink.old) (K.held sink.new) response.now.bytes.items) }
     ensures fault { IfErr result (λ fault. fault ≡ LinkFault.Write handled) }

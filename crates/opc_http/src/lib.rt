@@ -8,7 +8,7 @@ pub mod laws;
 pub mod telling;
 pub mod trail;
 
-pub use crate::exchanging::{LinkFault, Served, exchange, exchange_told};
+pub use crate::exchanging::{LinkFault, Served, exchange, exchange_told, respond};
 pub use crate::telling::Exchanged;
 pub use opc_http_requests::routes;
 pub use opc_http_requests::routes::Routes;

@@ -69,7 +69,8 @@ pub fn user_text(user: &Result<Option<UserId>, StoreFault>) -> &str
     }
 }
 
-fn refusal_code(refusal: &HttpRefusal) -> &'static str
+/// The code of a refusal of what is not a request.
+pub fn refusal_code(refusal: &HttpRefusal) -> &'static str
     ensures { result.now ≡ refusal_code refusal.now }
 {
     match refusal {

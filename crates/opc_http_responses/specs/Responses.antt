@@ -30,22 +30,22 @@ allow_field (Some method) = line (codes "Allow: " ++ method_text method)
 abbrev pub status_line : ℕ → List ℕ
 status_line status = line (codes "HTTP/1.1 " ++ decimal status ++ codes " " ++ phrase status)
 
--- the head: the line of the status, the fields, and an empty line
-abbrev pub head_of : ℕ → Option Method → List ℕ → List ℕ
-head_of status allow body =
+-- the head: the line of the status, the fields, those that this response has besides among them, and an empty line
+abbrev pub head_of : ℕ → (fields body : List ℕ) → List ℕ
+head_of status fields body =
     status_line status
     ++ line (codes "Content-Type: application/json")
     ++ line (codes "Content-Length: " ++ decimal (length body))
-    ++ allow_field allow
+    ++ fields
     ++ line (codes "Connection: close")
     ++ line []
 
-abbrev pub response_text : ℕ → Option Method → List ℕ → List ℕ
-response_text status allow body = head_of status allow body ++ body
+abbrev pub response_text : ℕ → (fields body : List ℕ) → List ℕ
+response_text status fields body = head_of status fields body ++ body
 
 -- the response to a request that was handled
 abbrev pub response_of : Answer → List ℕ
-response_of answer = response_text (status_of answer) None (answer_body answer)
+response_of answer = response_text (status_of answer) [] (answer_body answer)
 
 abbrev pub allowed : HttpRefusal → Option Method
 allowed (MethodNotAllowed method) = Some method
@@ -57,4 +57,9 @@ allowed (BadRow row why) = None
 
 -- the response to what is not a request
 abbrev pub refusal_response : HttpRefusal → List ℕ
-refusal_response refusal = response_text (refusal_status refusal) (allowed refusal) (refusal_body refusal)
+refusal_response refusal = response_text (refusal_status refusal) (allow_field (allowed refusal)) (refusal_body refusal)
+
+-- the same with further fields
+abbrev pub refusal_response_with : HttpRefusal → (more : List ℕ) → List ℕ
+refusal_response_with refusal more =
+    response_text (refusal_status refusal) (allow_field (allowed refusal) ++ more) (refusal_body refusal)

@@ -1,5 +1,5 @@
 //! Responses, byte for byte.
-ghost use Rattle.std.specs.Prelude.{◌≡◌, ◌++◌, IfOk, codes, decimal, length, string_bytes};
+ghost use Rattle.std.specs.Prelude.{◌≡◌, ◌++◌, [], IfOk, codes, decimal, length, string_bytes};
 ghost use Rattle.opc_http_responses.specs.Bodies.{answer_body, refusal_body};
 ghost use Rattle.opc_http_responses.specs.Responses.{
   allow_field,
@@ -7,6 +7,7 @@ ghost use Rattle.opc_http_responses.specs.Responses.{
   head_of,
   line,
   refusal_response,
+  refusal_response_with,
   response_of,
   response_text,
   status_line,
@@ -60,33 +61,30 @@ fn length_field(alloc: Global, body: &str) -> Result<String, AllocError>
     Ok(text)
 }
 
-fn head(
-    alloc: Global,
-    status: StatusCode,
-    allow: Option<Method>,
-    body: &str,
-) -> Result<String, AllocError>
-    ensures { IfOk result (λ text. string_bytes text ≡ head_of status allow body.now) }
+fn head(alloc: Global, status: StatusCode, fields: &str, body: &str) -> Result<String, AllocError>
+    ensures { IfOk result (λ text. string_bytes text ≡ head_of status fields.now body.now) }
 {
     let length = length_field(alloc, body)?;
     let mut text = status_line(alloc, status)?;
     text.push_str("Content-Type: application/json\r\n")?;
     text.push_str(length.as_str())?;
-    text.push_str(allow_field(allow))?;
+    text.push_str(fields)?;
     text.push_str("Connection: close\r\n")?;
     text.push_str("\r\n")?;
     Ok(text)
 }
 
-fn response_with(
+/// The response of a status, with these fields besides those that every response has.
+pub fn response_with(
     alloc: Global,
     status: StatusCode,
-    allow: Option<Method>,
+    fields: &str,
     body: &str,
 ) -> Result<Response, AllocError>
-    ensures { IfOk result (λ made. (made.status ≡ status) × (made.bytes.items ≡ response_text status allow body.now)) }
+    ensures { IfOk result (λ made. (made.status ≡ status)
+        × (made.bytes.items ≡ response_text status fields.now body.now)) }
 {
-    let mut text = head(alloc, status, allow, body)?;
+    let mut text = head(alloc, status, fields, body)?;
     text.push_str(body)?;
     Ok(Response {
         status: status.as_u16(),
@@ -98,7 +96,7 @@ fn answer_response(alloc: Global, answer: &Answer) -> Result<Response, AllocErro
     ensures { IfOk result (λ made. (made.status ≡ status_of answer.now) × (made.bytes.items ≡ response_of answer.now)) }
 {
     let body = answer_body(alloc, answer)?;
-    response_with(alloc, status_of(answer), None, body.as_str())
+    response_with(alloc, status_of(answer), "", body.as_str())
 }
 
 /// The response to a request that was handled.
@@ -118,17 +116,39 @@ fn allowed(refusal: &HttpRefusal) -> Option<Method>
     }
 }
 
-fn response_to_refusal(alloc: Global, refusal: &HttpRefusal) -> Result<Response, AllocError>
-    ensures { IfOk result (λ made. (made.status ≡ refusal_status refusal.now)
-        × (made.bytes.items ≡ refusal_response refusal.now)) }
+/// The field Allow, if the refusal has it, and further fields.
+fn fields_with(alloc: Global, refusal: &HttpRefusal, more: &str) -> Result<String, AllocError>
+    ensures { IfOk result (λ fields. string_bytes fields ≡ allow_field (allowed refusal.now) ++ more.now) }
 {
+    let mut fields = String::from_str(alloc, allow_field(allowed(refusal)))?;
+    fields.push_str(more)?;
+    Ok(fields)
+}
+
+/// The response to what is not a request, with further fields.
+pub fn refused_with(
+    alloc: Global,
+    refusal: &HttpRefusal,
+    more: &str,
+) -> Result<Response, AllocError>
+    ensures { IfOk result (λ made. (made.status ≡ refusal_status refusal.now)
+        × (made.bytes.items ≡ refusal_response_with refusal.now more.now)) }
+{
+    let fields = fields_with(alloc, refusal, more)?;
     let body = refusal_body(alloc, refusal)?;
     response_with(
         alloc,
         refusal_status(refusal),
-        allowed(refusal),
+        fields.as_str(),
         body.as_str(),
     )
+}
+
+fn response_to_refusal(alloc: Global, refusal: &HttpRefusal) -> Result<Response, AllocError>
+    ensures { IfOk result (λ made. (made.status ≡ refusal_status refusal.now)
+        × (made.bytes.items ≡ refusal_response refusal.now)) }
+{
+    refused_with(alloc, refusal, "")
 }
 
 /// The response to what is not a request.

@@ -44,6 +44,7 @@ use Rattle.opc_gate.proofs.Running.{run_more}
 use Rattle.opc_http_connections.specs.Links.{Link}
 use Rattle.opc_http_connections.specs.declared.timed.Timed.{Timed}
 use Rattle.opc_http_requests.specs.declared.origins.Origins.{Origins}
+use Rattle.opc_http_requests.specs.Asked.{MayRead}
 use Rattle.opc_http.specs.Exchange.{IsFaulty, IsServed, IsUnserved, Replies, Reply}
 use Rattle.opc_http.specs.declared.exchanging.LinkFault.{LinkFault}
 use Rattle.opc_http.specs.declared.exchanging.LinkFault.TheVariants as fault
@@ -53,6 +54,7 @@ use Rattle.opc_http_serve.specs.Handled.{AreHandled, Handled, IsConversation, Is
 use Rattle.opc_http_serve.specs.Arriving.{Arrives, IsLost}
 use Rattle.opc_http_serve.specs.Moments.{is_before_1970, moment_of}
 use Rattle.opc_http_serve.specs.Serving.{
+  AreClientsServed,
   AreServed,
   Exchanged,
   ExchangedOver,
@@ -61,7 +63,6 @@ use Rattle.opc_http_serve.specs.Serving.{
   IsEnded,
   IsTurn,
   ServesAll,
-  ServesClients,
   by_bytes,
 }
 use Rattle.opc_http_serve.specs.declared.arrival.ServeFault.{ServeFault}
@@ -87,15 +88,15 @@ within : (reading : Result Duration Error) (moment : ℕ) → moment_of reading 
 within reading moment e = IfOk-at_ok (λ m. m ≤ LAST_MOMENT) e (low reading)
 
 -- one more connection came
-module _ {C K G D : Type 0} (link : Link C K) (shuts : C → Bool → Type 0) (origins : Origins) (made : ExchangedOver G)
+module _ {C K G D : Type 0} (link : Link C K) (shuts : C → Bool → Type 0) (may_read : List ℕ → ℕ → Type 0) (made : ExchangedOver G)
     (accepts : D → Result (Option (C × C)) Error → D → Type 0) (clock_says : D → Result Duration Error → D → Type 0) (timer : K)
     (timeout : Option Duration) (first : D) (old : G) where
   pub one_served : (n : ℕ) (met last : D) (was new : G)
-      → AreServed link shuts origins made accepts clock_says timer timeout first old n met was
-      → IsTurn link shuts origins made accepts clock_says timer timeout met was last new
-      → AreServed link shuts origins made accepts clock_says timer timeout first old (n + 1) last new
+      → AreServed link shuts may_read made accepts clock_says timer timeout first old n met was
+      → IsTurn link shuts may_read made accepts clock_says timer timeout met was last new
+      → AreServed link shuts may_read made accepts clock_says timer timeout first old (n + 1) last new
   one_served n met last was new are turn =
-      subst (λ m. AreServed link shuts origins made accepts clock_says timer timeout first old m last new) (sym (next n)) (met, was, are, turn)
+      subst (λ m. AreServed link shuts may_read made accepts clock_says timer timeout first old m last new) (sym (next n)) (met, was, are, turn)
 
 -- A connection was drained, whatever is known of its end.
 ended_anyhow : {C K A : Type 0} (link : Link C K) (shuts : C → Bool → Type 0) (ended : Result A LinkFault) (last gone : Timed C K)
@@ -104,7 +105,7 @@ ended_anyhow link shuts (Ok served) last gone (inl (unable, same)) = inl (tt, sa
 ended_anyhow link shuts (Ok served) last gone (inr (able, drained)) = inr (tt, drained)
 ended_anyhow link shuts (Err f) last gone same = same
 
-module _ {C K G D : Type 0} (link : Link C K) (shuts : C → Bool → Type 0) (origins : Origins) (made : Exchanged G)
+module _ {C K G D : Type 0} (link : Link C K) (shuts : C → Bool → Type 0) (may_read : List ℕ → ℕ → Type 0) (made : Exchanged G)
     (accepts : D → Result (Option (C × C)) Error → D → Type 0) (clock_says : D → Result Duration Error → D → Type 0) (timer : K)
     (timeout : Option Duration) (first : D) (old : G) where
   -- wherever they came from: `is` stays as they come
@@ -118,8 +119,8 @@ module _ {C K G D : Type 0} (link : Link C K) (shuts : C → Bool → Type 0) (o
         (inr (error, at.0, passes), at.1)
 
     turn_anywhere : (met last : D) (was new : G) → is met
-        → IsTurn link shuts origins (by_bytes made) accepts clock_says timer timeout met was last new
-        → IsTurn link (λ _ _. ⊤) origins (by_bytes made) {D = ⊤} (λ _ handles _. comes handles) (λ _ _ _. ⊤) timer timeout tt was tt new × is last
+        → IsTurn link shuts may_read (by_bytes made) accepts clock_says timer timeout met was last new
+        → IsTurn link (λ _ _. ⊤) may_read (by_bytes made) {D = ⊤} (λ _ handles _. comes handles) (λ _ _ _. ⊤) timer timeout tt was tt new × is last
     turn_anywhere met last was new there (inl client) =
         let dates = client.arrival.dated in
         let at = seen met _ dates.mid there dates.accepted in (
@@ -151,8 +152,8 @@ module _ {C K G D : Type 0} (link : Link C K) (shuts : C → Bool → Type 0) (o
     turn_anywhere met last was new there (inr (none, idle)) = let at = lost met last there none in (inr (at.0, idle), at.1)
 
     anyhow : (n : ℕ) (last : D) (new : G) → is first
-        → AreServed link shuts origins (by_bytes made) accepts clock_says timer timeout first old n last new
-        → ServesAll link origins made comes timer timeout old n new × is last
+        → AreServed link shuts may_read (by_bytes made) accepts clock_says timer timeout first old n last new
+        → ServesAll link may_read made comes timer timeout old n new × is last
     anyhow zero last new there are = ((refl, are.1), subst is (sym are.0) there)
     anyhow (suc n) last new there (met, was, are, turn) =
         let before = anyhow n met was there are in
@@ -177,9 +178,9 @@ module _ {C K G D : Type 0} (link : Link C K) (shuts : C → Bool → Type 0) (o
     })
 
     pub from_anywhere : {A : Type 0} (count : ℕ) (last : D) (new : G) (end : Result A ServeFault) → is first
-        → OnOk end (AreServed link shuts origins (by_bytes made) accepts clock_says timer timeout first old count last new)
-        → IfErr end (λ f. IsCutShort link shuts origins (by_bytes made) accepts clock_says timer timeout first old count f last new)
-        → ServesClients link origins made comes timer timeout old count end new
+        → OnOk end (AreServed link shuts may_read (by_bytes made) accepts clock_says timer timeout first old count last new)
+        → IfErr end (λ f. IsCutShort link shuts may_read (by_bytes made) accepts clock_says timer timeout first old count f last new)
+        → AreClientsServed link may_read made comes timer timeout old count end new
     from_anywhere count last new (Ok a) there are cut = (anyhow count last new there are).0
     from_anywhere count last new (Err f) there are cut =
         let some = anyhow cut.done cut.met new there cut.served in record {
@@ -278,9 +279,9 @@ module _ (origins : Origins) {T : Type 0} (m : Meaning T) where
   module _ {C K D : Type 0} (link : Link C K) (shuts : C → Bool → Type 0) (accepts : D → Result (Option (C × C)) Error → D → Type 0)
       (clock_says : D → Result Duration Error → D → Type 0) (timer : K) (timeout : Option Duration) where
     client : (met last : D) (old mid new : T) (handled : Handled)
-        → IsClient link shuts origins (by_bytes (IsExchange origins m)) accepts clock_says timer timeout met mid last new
+        → IsClient link shuts (MayRead origins) (by_bytes (IsExchange origins m)) accepts clock_says timer timeout met mid last new
         → IsRunOf m old mid handled
-        → (more : Handled) × IsClient link shuts origins (by_bytes (IsConversation origins)) accepts clock_says timer timeout met handled last more
+        → (more : Handled) × IsClient link shuts (MayRead origins) (by_bytes (IsConversation origins)) accepts clock_says timer timeout met handled last more
         × IsRunOf m old new more × (m.is_sure new → m.is_sure mid)
     client met last old mid new handled one run =
         let served = one.served in
@@ -305,9 +306,9 @@ module _ (origins : Origins) {T : Type 0} (m : Meaning T) where
         )
 
     turn : (met last : D) (old mid new : T) (handled : Handled)
-        → IsTurn link shuts origins (by_bytes (IsExchange origins m)) accepts clock_says timer timeout met mid last new
+        → IsTurn link shuts (MayRead origins) (by_bytes (IsExchange origins m)) accepts clock_says timer timeout met mid last new
         → IsRunOf m old mid handled
-        → (more : Handled) × IsTurn link shuts origins (by_bytes (IsConversation origins)) accepts clock_says timer timeout met handled last more
+        → (more : Handled) × IsTurn link shuts (MayRead origins) (by_bytes (IsConversation origins)) accepts clock_says timer timeout met handled last more
         × IsRunOf m old new more × (m.is_sure new → m.is_sure mid)
     turn met last old mid new handled (inl one) run =
         let r = client met last old mid new handled one run in
@@ -317,8 +318,9 @@ module _ (origins : Origins) {T : Type 0} (m : Meaning T) where
 
     module _ (first : D) (old : T) where
       handled_for : (n : ℕ) (last : D) (new : T)
-          → AreServed link shuts origins (by_bytes (IsExchange origins m)) accepts clock_says timer timeout first old n last new
-          → (handled : Handled) × AreServed link shuts origins (by_bytes (IsConversation origins)) accepts clock_says timer timeout first none_handled n last handled
+          → AreServed link shuts (MayRead origins) (by_bytes (IsExchange origins m)) accepts clock_says timer timeout first old n last new
+          → (handled : Handled)
+          × AreServed link shuts (MayRead origins) (by_bytes (IsConversation origins)) accepts clock_says timer timeout first none_handled n last handled
           × IsRunOf m old new handled × (m.is_sure new → m.is_sure old)
       handled_for zero last new are =
           (none_handled, (are.0, refl), none_more m old old new none_handled are.1 (begins m old), λ sure. subst m.is_sure are.1 sure)
@@ -332,21 +334,22 @@ module _ (origins : Origins) {T : Type 0} (m : Meaning T) where
           (dated : (a : D) (reading : Result Duration Error) (b : D) → is a → clock_says a reading b → is b)
           {A : Type 0} (count : ℕ) (last : D) (new : T) where
         pub all_handled : (end : Result A ServeFault) → is first
-            → OnOk end (AreServed link shuts origins (by_bytes (IsExchange origins m)) accepts clock_says timer timeout first old count last new)
-            → IfErr end (λ f. IsCutShort link shuts origins (by_bytes (IsExchange origins m)) accepts clock_says timer timeout first old count f last new)
+            → OnOk end (AreServed link shuts (MayRead origins) (by_bytes (IsExchange origins m)) accepts clock_says timer timeout first old count last new)
+            → IfErr end (λ f.
+            IsCutShort link shuts (MayRead origins) (by_bytes (IsExchange origins m)) accepts clock_says timer timeout first old count f last new)
             → AreHandled origins m link comes timeout old new count end
         all_handled (Ok a) there are cut =
             let h = handled_for count last new are in record {
               handled = h.0;
               timer = timer;
               served =
-                  (anyhow link shuts origins (IsConversation origins) accepts clock_says timer timeout first none_handled comes is seen dated
+                  (anyhow link shuts (MayRead origins) (IsConversation origins) accepts clock_says timer timeout first none_handled comes is seen dated
                   count last h.0 there h.1).0;
               run = h.2;
             }
         all_handled (Err f) there are cut =
             let h = handled_for cut.done cut.met new cut.served in
-            let some = anyhow link shuts origins (IsConversation origins) accepts clock_says timer timeout first none_handled comes is seen
+            let some = anyhow link shuts (MayRead origins) (IsConversation origins) accepts clock_says timer timeout first none_handled comes is seen
             dated cut.done cut.met h.0 there h.1 in record {
               handled = h.0;
               timer = timer;
@@ -356,15 +359,16 @@ module _ (origins : Origins) {T : Type 0} (m : Meaning T) where
                 met = tt;
                 served = some.0;
                 failed =
-                    none_came link shuts origins (IsConversation origins) accepts clock_says timer timeout first none_handled comes is seen
+                    none_came link shuts (MayRead origins) (IsConversation origins) accepts clock_says timer timeout first none_handled comes is seen
                     dated f cut.met last some.1 cut.failed;
               };
               run = h.2;
             }
 
       pub sure : {A : Type 0} (count : ℕ) (last : D) (new : T) (end : Result A ServeFault)
-          → OnOk end (AreServed link shuts origins (by_bytes (IsExchange origins m)) accepts clock_says timer timeout first old count last new)
-          → IfErr end (λ f. IsCutShort link shuts origins (by_bytes (IsExchange origins m)) accepts clock_says timer timeout first old count f last new)
+          → OnOk end (AreServed link shuts (MayRead origins) (by_bytes (IsExchange origins m)) accepts clock_says timer timeout first old count last new)
+          → IfErr end (λ f.
+          IsCutShort link shuts (MayRead origins) (by_bytes (IsExchange origins m)) accepts clock_says timer timeout first old count f last new)
           → m.is_sure new → m.is_sure old
       sure count last new (Ok a) are cut = (handled_for count last new are).3
       sure count last new (Err f) are cut = (handled_for cut.done cut.met new cut.served).3

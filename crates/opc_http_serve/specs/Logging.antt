@@ -16,23 +16,32 @@ use Rattle.opc_http_serve.specs.declared.service.Service.{Service}
 use Rattle.opc_http_serve.specs.declared.service.ServiceTrail.{ServiceTrail}
 
 module _ {K : Type 0} (held : K → Option (List ℕ)) (has_failed : K → Bool) where
-  -- The line of an exchange was written to a log, whole unless a write failed; or its allocation failed.
-  pub record IsLine (before after : K) (entry : LogEntry) : Type 0 where
-    pub line : List ℕ
-    pub is : IsLogLine entry line
-    pub part : AppendsPrefix (held before) (held after) line
-    pub whole : has_failed after ≡ false → Appends (held before) (held after) line
+  module _ (is_line : List ℕ → Type 0) where
+    -- Such a line was written to a log, whole unless a write failed; or its allocation failed.
+    pub record IsLine (before after : K) : Type 0 where
+      pub line : List ℕ
+      pub is : is_line line
+      pub part : AppendsPrefix (held before) (held after) line
+      pub whole : has_failed after ≡ false → Appends (held before) (held after) line
 
-  abbrev pub IsLineWritten : (before after : K) → LogEntry → Type 0
-  IsLineWritten before after entry = (after ≡ before) ⊎ IsLine before after entry
+    abbrev pub IsLineWritten : (before after : K) → Type 0
+    IsLineWritten before after = (after ≡ before) ⊎ IsLine before after
+
+    -- Without a log there is none afterwards. With one such a line was written.
+    abbrev pub IsLineLogged : (before after : Option K) → Type 0
+    IsLineLogged None None = ⊤
+    IsLineLogged None (Some log) = ⊥
+    IsLineLogged (Some log) None = ⊥
+    IsLineLogged (Some before) (Some after) = IsLineWritten before after
 
   module _ (entry_of : LogEntry → Type 0) where
-    -- Without a log there is none afterwards. With one the line of this exchange was written.
+    -- The same for the line of an exchange.
     abbrev pub IsLogged : (before after : Option K) → Type 0
     IsLogged None None = ⊤
     IsLogged None (Some log) = ⊥
     IsLogged (Some log) None = ⊥
-    IsLogged (Some before) (Some after) = (entry : LogEntry) × entry_of entry × IsLineWritten before after entry
+    IsLogged (Some before) (Some after) =
+        (entry : LogEntry) × entry_of entry × IsLineWritten (IsLogLine entry) before after
 
 -- One exchange of a service, over its tables; what followed it; and its line.
 module _ {K N A : Type 0} (held : K → Option (List ℕ)) (has_failed : K → Bool)

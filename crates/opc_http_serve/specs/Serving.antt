@@ -34,7 +34,7 @@ IsEnded link shuts (Ok served) last gone =
     IsDrained link.limits link.shows link.reads link.remaining shuts last gone
 IsEnded link shuts (Err fault) last gone = gone ≡ last
 
-module _ {C K G : Type 0} (link : Link C K) (shuts : C → Bool → Type 0) (origins : Origins)
+module _ {C K G : Type 0} (link : Link C K) (shuts : C → Bool → Type 0) (may_read : List ℕ → ℕ → Type 0)
     (exchanged : ExchangedOver G)
   where
     -- One exchange was made over the client's connection, at its timestamp, by the writer with which it came, and
@@ -47,7 +47,7 @@ module _ {C K G : Type 0} (link : Link C K) (shuts : C → Bool → Type 0) (ori
       pub last : Timed C K
       pub read : ReadsOnly (λ (t : Timed C K). link.remaining t.handle)
           (λ (t : Timed C K) given after. IsReadInTime link.limits link.shows link.reads link.remaining t given after)
-          (MayRead origins) came.reader [] last
+          may_read came.reader [] last
       pub few : TakesAtMost (32 * 32_768) (link.remaining last.handle) (link.remaining gone.reader.handle)
       pub drained : IsEnded link shuts ended last gone.reader
 
@@ -79,20 +79,28 @@ module _ {C K G : Type 0} (link : Link C K) (shuts : C → Bool → Type 0) (ori
           pub failed : Arrives accepts clock_says link.shows timer timeout met (Err fault) last
 
 -- Connections came as stated here, wherever from.
-module _ {C K G : Type 0} (link : Link C K) (origins : Origins) (exchanged : Exchanged G)
+module _ {C K G : Type 0} (link : Link C K) (may_read : List ℕ → ℕ → Type 0) (exchanged : Exchanged G)
     (comes : Result (Option (C × C)) Error → Type 0) (timer : K) (timeout : Option Duration)
   where
     -- This many clients were served.
     abbrev pub ServesAll : G → ℕ → G → Type 0
-    ServesAll old count new = AreServed link (λ _ _. ⊤) origins (by_bytes exchanged) {D = ⊤}
+    ServesAll old count new = AreServed link (λ _ _. ⊤) may_read (by_bytes exchanged) {D = ⊤}
         (λ _ handles _. comes handles) (λ _ _ _. ⊤) timer timeout tt old count tt new
 
     -- Fewer were, and then none could be accepted.
     abbrev pub ServesFewer : G → ℕ → ServeFault → G → Type 0
-    ServesFewer old count fault new = IsCutShort link (λ _ _. ⊤) origins (by_bytes exchanged) {D = ⊤}
+    ServesFewer old count fault new = IsCutShort link (λ _ _. ⊤) may_read (by_bytes exchanged) {D = ⊤}
         (λ _ handles _. comes handles) (λ _ _ _. ⊤) timer timeout tt old count fault tt new
 
     -- The outcome of serving this many clients.
+    abbrev pub AreClientsServed : {A : Type 0} → G → ℕ → Result A ServeFault → G → Type 0
+    AreClientsServed old count (Ok all) new = ServesAll old count new
+    AreClientsServed old count (Err fault) new = ServesFewer old count fault new
+
+module _ {C K G : Type 0} (link : Link C K) (origins : Origins) (exchanged : Exchanged G)
+    (comes : Result (Option (C × C)) Error → Type 0) (timer : K) (timeout : Option Duration)
+  where
+    -- The outcome of serving this many clients of a gate.
     abbrev pub ServesClients : {A : Type 0} → G → ℕ → Result A ServeFault → G → Type 0
-    ServesClients old count (Ok all) new = ServesAll old count new
-    ServesClients old count (Err fault) new = ServesFewer old count fault new
+    ServesClients old count end new =
+        AreClientsServed link (MayRead origins) exchanged comes timer timeout old count end new

@@ -2,6 +2,8 @@
 ghost use Rattle.std.specs.Prelude.{◌≡◌, Some, false, is_some};
 ghost use Rattle.std.specs.Io.KnownBytes.{Appends};
 ghost use Rattle.opc_io.specs.Writes.{AppendsPrefix};
+ghost use Rattle.opc_http_requests.specs.Asked.{MayRead};
+ghost use Rattle.opc_http_log.specs.LogLines.{IsLogLine};
 ghost use Rattle.opc_http_serve.specs.Logging.{IsLineWritten, IsLogged, IsServiceExchange};
 
 use crate::exchanges::Exchanges;
@@ -65,7 +67,7 @@ impl<L: Sink, N: Folder> Trail for ServiceTrail<'_, L, N> {
 }
 
 /// Writes to a log. Nothing but the log depends on it: if a write fails, the line is cut.
-fn write_to<K: Sink>(log: &mut K, line: &[u8])
+pub fn write_to<K: Sink>(log: &mut K, line: &[u8])
     ensures part { AppendsPrefix (K.held log.old) (K.held log.new) line.now }
     ensures whole { K.has_failed log.new ≡ false → Appends (K.held log.old) (K.held log.new) line.now }
 {
@@ -74,7 +76,7 @@ fn write_to<K: Sink>(log: &mut K, line: &[u8])
 
 /// Writes the line of an exchange, which is over, to the log. If its allocation fails, it is left out.
 fn write_line<K: Sink>(alloc: Global, log: &mut K, entry: &LogEntry)
-    ensures { IsLineWritten K.held K.has_failed log.old log.new entry.now }
+    ensures { IsLineWritten K.held K.has_failed (IsLogLine entry.now) log.old log.new }
 {
     let Ok(line) = log_line(alloc, entry) else {
         return;
@@ -93,6 +95,10 @@ fn write_entry<K: Sink>(alloc: Global, log: &mut Option<K>, entry: &Option<LogEn
 }
 
 impl<T: Tables, L: Sink, N: Folder> Exchanges for Service<'_, T, L, N> {
+    type Routes = Routes;
+
+    ghost may_read = { λ origins. MayRead origins };
+
     ghost exchanged = { λ origins old left moment _ held before after result new. IsServiceExchange L.held L.has_failed
         N.holds N.writes N.publishes origins T.meaning old left moment (held before) (held after) result new };
 

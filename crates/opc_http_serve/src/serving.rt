@@ -29,12 +29,12 @@ use std::time::Duration;
 fn serve_client<C: Connection, K: Timer, X: Exchanges>(
     alloc: Global,
     client: &mut Arrival<'_, C, K>,
-    routes: &Routes,
+    routes: &X::Routes,
     gate: &mut X,
 )
     requires reader { client.old.reader.failed ≡ false }
     requires writer { client.old.writer.failed ≡ false }
-    ensures { IsClientServed (link_of C.limits K.shows C.reads C.remaining C.contents) C.shuts routes.now
+    ensures { IsClientServed (link_of C.limits K.shows C.reads C.remaining C.contents) C.shuts (X.may_read routes.now)
         (X.exchanged routes.now) client.old client.new gate.old gate.new }
 {
     let moment = client.moment;
@@ -56,12 +56,12 @@ fn serve_next<A: Arrivals, K: Timer, X: Exchanges>(
     timer: &K,
     arrivals: &mut A,
     timeout: Option<Duration>,
-    routes: &Routes,
+    routes: &X::Routes,
     gate: &mut X,
 ) -> Result<(), ServeFault>
     ensures turn { OnOk result (IsTurn (link_of A.Connection.limits K.shows A.Connection.reads A.Connection.remaining
-        A.Connection.contents) A.Connection.shuts routes.now (X.exchanged routes.now) A.accepts A.clock_says timer.now timeout
-        arrivals.old gate.old arrivals.new gate.new) }
+        A.Connection.contents) A.Connection.shuts (X.may_read routes.now) (X.exchanged routes.now) A.accepts
+        A.clock_says timer.now timeout arrivals.old gate.old arrivals.new gate.new) }
     ensures none { IfErr result (λ fault. Arrives A.accepts A.clock_says K.shows timer.now timeout arrivals.old
         (Err fault) arrivals.new) }
     ensures idle { OnErr result (gate.new ≡ gate.old) }
@@ -80,15 +80,15 @@ pub fn serve<A: Arrivals, K: Timer, X: Exchanges>(
     arrivals: &mut A,
     count: u32,
     timeout: Option<Duration>,
-    routes: &Routes,
+    routes: &X::Routes,
     gate: &mut X,
 ) -> Result<(), ServeFault>
     ensures done { OnOk result (AreServed (link_of A.Connection.limits K.shows A.Connection.reads A.Connection.remaining
-        A.Connection.contents) A.Connection.shuts routes.now (X.exchanged routes.now) A.accepts A.clock_says timer.now timeout
-        arrivals.old gate.old count arrivals.new gate.new) }
+        A.Connection.contents) A.Connection.shuts (X.may_read routes.now) (X.exchanged routes.now) A.accepts
+        A.clock_says timer.now timeout arrivals.old gate.old count arrivals.new gate.new) }
     ensures ended { IfErr result (λ fault. IsCutShort (link_of A.Connection.limits K.shows A.Connection.reads
-        A.Connection.remaining A.Connection.contents) A.Connection.shuts routes.now (X.exchanged routes.now) A.accepts A.clock_says
-        timer.now timeout arrivals.old gate.old count fault arrivals.new gate.new) }
+        A.Connection.remaining A.Connection.contents) A.Connection.shuts (X.may_read routes.now)
+        (X.exchanged routes.now) A.accepts A.clock_says timer.now timeout arrivals.old gate.old count fault arrivals.new gate.new) }
 {
     for _connection in 0..count {
         serve_next(alloc, timer, arrivals, timeout, routes, gate)?;

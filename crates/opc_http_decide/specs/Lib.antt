@@ -1,0 +1,4 @@
+pub mod Configurations
+pub mod DecideLines
+pub mod DecideResponses
+pub mod DecideExchanges

@@ -6,5 +6,5 @@ pub mod escape;
 pub mod laws;
 pub mod line;
 mod operation;
-mod typed;
+pub mod typed;
 pub mod words;

@@ -143,7 +143,7 @@ fn without(alloc: Global, end: &[u8], text: &[u8]) -> Result<Vec<u8>, AllocError
 
 /// A command as it was typed, without a password.
 #[tactic(auto, unfolding(crate::specs::Typed::typed))]
-pub(crate) fn typed(alloc: Global, text: &str) -> Result<Vec<u8>, AllocError>
+pub fn typed(alloc: Global, text: &str) -> Result<Vec<u8>, AllocError>
     ensures { IfOk result (λ shown. shown.items ≡ typed text.now) }
 {
     without(alloc, hidden(text), text.as_bytes())

@@ -1,8 +1,6 @@
 //! The names of states.
-ghost use Rattle.std.specs.Prelude.{◌≡◌, ◌++◌, IfOk, OnOk, codes, flat_map, string_bytes, take};
-ghost use Rattle.hex.specs.Hex.{encode_lower};
-ghost use Rattle.sha2.specs.Sha256.{sha256};
-ghost use Rattle.opc_policy_folder.specs.StateNames.{IsStateName, stamped};
+ghost use Rattle.std.specs.Prelude.{◌≡◌, ◌++◌, IfOk, OnOk, codes, flat_map, string_bytes};
+ghost use Rattle.opc_policy_folder.specs.StateNames.{IsStateName, digits_of, stamped};
 
 use opc_times::time::time_text;
 use sha2::{Digest, Sha256};
@@ -34,8 +32,8 @@ fn stamp_of(alloc: Global, time: &[u8]) -> Result<String, AllocError>
 }
 
 /// How the SHA-256 of a text begins.
-fn digits_of(alloc: Global, text: &[u8]) -> Result<String, AllocError>
-    ensures { IfOk result (λ digits. string_bytes digits ≡ encode_lower (take 8 (sha256 text.now))) }
+pub fn digits_of(alloc: Global, text: &[u8]) -> Result<String, AllocError>
+    ensures { IfOk result (λ digits. string_bytes digits ≡ digits_of text.now) }
 {
     let digest = Sha256::digest(text);
     hex::encode(alloc, &digest[..DIGEST_BYTES])

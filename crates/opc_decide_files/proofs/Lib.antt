@@ -1,0 +1,4 @@
+pub mod Allowed
+pub mod PrintableText
+pub mod Rules
+pub mod Texts

@@ -1,0 +1,4 @@
+pub mod Answering
+pub mod DecidingFiles
+pub mod Replying
+pub mod Told

@@ -1,0 +1,38 @@
+//! The answers to questions by a policy.
+ghost use Rattle.std.specs.Prelude.{◌≡◌, IfOk, Some};
+ghost use Rattle.serde_json.specs.Read.{read};
+ghost use Rattle.opc_decide_requests.specs.declared.question.AccessQuestion.{AccessQuestion};
+ghost use Rattle.opc_decide_answers.specs.DecisionValues.{decision_value};
+ghost use Rattle.opc_decide_answers.specs.Decisions.{decision_of};
+ghost use Rattle.opc_decide_present.specs.declared.kind.QuestionKind.TheVariants as question;
+ghost use Rattle.opc_decide_files.specs.Answering.{answer_to, question_in};
+
+use crate::evaluating::{evaluation_answer, reply_answer};
+use opc_decide_answers::evaluation::evaluations;
+use opc_decide_answers::policy::DecidingPolicy;
+use opc_decide_present::decider::DecidedAnswer;
+use opc_decide_present::kind::QuestionKind;
+use opc_decide_searches::search::{action_search, resource_search, subject_search};
+use std::alloc::{AllocError, Global};
+
+/// The answer to the body of a request, by the kind of its question. That to one question says what is decided.
+pub fn answer_to(
+    alloc: Global,
+    policy: &DecidingPolicy,
+    kind: QuestionKind,
+    body: &[u8],
+) -> Result<DecidedAnswer, AllocError>
+    ensures is { IfOk result (λ answer. answer ≡ answer_to policy.now kind body.now) }
+    ensures reads { IfOk result (λ answer. kind ≡ question.Evaluation
+        → (asked : AccessQuestion) → question_in body.now ≡ Some asked
+        → read answer.body ≡ Some (decision_value policy.now.name (decision_of policy.now.state asked))) }
+{
+    let reply = match kind {
+        QuestionKind::Evaluation => return evaluation_answer(alloc, policy, body),
+        QuestionKind::Evaluations => evaluations(alloc, policy, body)?,
+        QuestionKind::SubjectSearch => subject_search(alloc, policy, body)?,
+        QuestionKind::ActionSearch => action_search(alloc, policy, body)?,
+        QuestionKind::ResourceSearch => resource_search(alloc, policy, body)?,
+    };
+    reply_answer(alloc, policy, kind, reply)
+}

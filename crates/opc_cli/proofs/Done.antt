@@ -12,8 +12,9 @@ use Rattle.opc_cli_failures.specs.declared.status.Status.TheVariants.{Done, Refu
 use Rattle.opc_cli_failures.specs.Statuses.{IsFailure, number_of, status_of}
 use Rattle.opc_cli_tasks.specs.declared.task.Task.{Task}
 use Rattle.opc_cli_words.specs.Reading.{AreRead}
+use Rattle.opc_cli_questions.specs.Reported.{IsFaultReported}
 use Rattle.opc_cli.specs.RunFiles.{logged_run, unknown_files}
-use Rattle.opc_cli.specs.Words.{AreDone, IsDoneApart, IsFaultReported}
+use Rattle.opc_cli.specs.Words.{AreDone, IsDoneApart}
 
 pub at_most_three : (status : Status) → number_of status ≤ 3
 at_most_three Done = omega arith

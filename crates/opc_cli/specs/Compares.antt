@@ -1,5 +1,5 @@
 -- The policies that `diff` compares: each of a file, or of the tables of a database file that is read.
-use Rattle.std.specs.Prelude.{◌≡◌, ◌⊎◌, ⊤, Bool, None, Result, Ok, Err, IsErrAnd}
+use Rattle.std.specs.Prelude.{◌≡◌, ◌⊎◌, Bool, None, Result, IsErrAnd}
 use Rattle.sqlite_disk.specs.declared.Disk as disk
 use Rattle.sqlite_store.specs.declared.store.FileStore.{FileStore}
 use Rattle.sqlite.specs.Files.{over_files}
@@ -12,17 +12,10 @@ use Rattle.opc_store.specs.Reading.{IsFoundAt, IsNotRead}
 use Rattle.opc_store.specs.StoreTables.{store_meaning}
 use Rattle.opc_store.specs.declared.opening.OpenFault.{OpenFault}
 use Rattle.opc_cli_failures.specs.declared.failure.Failure.{Failure}
-use Rattle.opc_cli_failures.specs.declared.status.Status.{Status}
-use Rattle.opc_cli_failures.specs.declared.status.Status.TheVariants.{BadInput, Refused}
 use Rattle.opc_cli_questions.specs.Sides.{IsMade, IsSideOn, IsSideRead}
 use Rattle.opc_cli_questions.specs.declared.sides.PolicySide.{PolicySide}
 use Rattle.opc_cli_tasks.specs.declared.source.NamedPolicy.{NamedPolicy}
 use Rattle.opc_cli_tasks.specs.declared.source.NamedPolicy.TheVariants.{Database, File}
-
--- a row that is refused is bad input, since the status of a refusal says that rows differ
-abbrev pub refused_status : Status → Status
-refused_status Refused = BadInput
-refused_status status = status
 
 module _ {D : Type 0} (g : disk.Ghosts D) (is_as_read : Bool → D → Type 0) (image : Image)
     (result : Result PolicySide Failure) where

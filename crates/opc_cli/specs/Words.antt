@@ -14,13 +14,11 @@ use Rattle.std.specs.Prelude.{
   Result,
   Ok,
   Err,
-  IfErr,
   IfOk,
   option_map,
 }
 use Rattle.std.specs.Io.KnownBytes.{Appends}
 use Rattle.std.specs.Borrow.{Bor}
-use Rattle.std.specs.Option.{option_copied}
 use Rattle.sqlite_disk.specs.declared.Disk as disk
 use Rattle.sqlite_disk.specs.declared.Files.{Files}
 use Rattle.sqlite_store.specs.declared.store.FileStore.{FileStore}
@@ -39,8 +37,7 @@ use Rattle.opc_cli_digest.specs.Answers.{IsPromptedAnswer}
 use Rattle.opc_cli_failures.specs.declared.failure.Failure.{Failure}
 use Rattle.opc_cli_failures.specs.declared.status.Status.{Status}
 use Rattle.opc_cli_failures.specs.declared.status.Status.TheVariants.{Done, Failed}
-use Rattle.opc_cli_failures.specs.Printing.{IsReported}
-use Rattle.opc_cli_failures.specs.Statuses.{IsFailure, status_of, status_of_end}
+use Rattle.opc_cli_failures.specs.Statuses.{IsFailure, status_of_end}
 use Rattle.opc_http_serve.specs.declared.clock.TheConstants.{LAST_MOMENT}
 use Rattle.opc_cli_tasks.specs.declared.work.Lines.{Lines}
 use Rattle.opc_cli_tasks.specs.declared.work.Lines.TheVariants.{Script, Now}
@@ -52,25 +49,21 @@ use Rattle.opc_cli_words.specs.Reading.{Ask, AskForNone}
 use Rattle.opc_cli_program.specs.InputFiles.{AreBytesOf}
 use Rattle.opc_cli_program.specs.declared.input_file.InputFile.{InputFile}
 use Rattle.opc_cli_program.specs.declared.input_file.InputFile.TheVariants as input
-use Rattle.opc_check.specs.declared.form.Form.{Form}
-use Rattle.opc_cli_questions.specs.Checks.{IsReportedCheck}
-use Rattle.opc_cli_questions.specs.Differences.{IsDifference}
+use Rattle.opc_cli_questions.specs.Compared.{IsComparedWith, IsSideRefused}
 use Rattle.opc_cli_questions.specs.EmptyRoom.{IsEmptyRoomNoted}
-use Rattle.opc_cli_questions.specs.May.{IsMayAnswer}
-use Rattle.opc_cli_questions.specs.Sheets.{IsFileSheet}
-use Rattle.opc_cli_questions.specs.Printed.{IsReportedBy, IsWritten, left_in}
-use Rattle.opc_cli_questions.specs.Questions.{IsQuestionAnswer}
+use Rattle.opc_cli_questions.specs.FileAnswers.{IsAnsweredByFile}
+use Rattle.opc_cli_questions.specs.Printed.{left_in}
+use Rattle.opc_cli_questions.specs.Reported.{IsEndReported, IsFaultReported}
 use Rattle.opc_cli_questions.specs.declared.sides.PolicySide.{PolicySide}
 use Rattle.opc_cli_tasks.specs.declared.question.Comparison.{Comparison}
 use Rattle.opc_cli_tasks.specs.declared.work.Import.{Import}
 use Rattle.opc_cli_tasks.specs.declared.work.Work.{Work}
 use Rattle.opc_cli_tasks.specs.declared.work.Work.TheVariants as work
 use Rattle.opc_cli_tasks.specs.declared.question.PolicyQuestion.{PolicyQuestion}
-use Rattle.opc_cli_tasks.specs.declared.question.PolicyQuestion.TheVariants as question
 use Rattle.opc_cli.specs.RunFiles.{IsApart, IsShared, logged_run, unknown_files}
 use Rattle.opc_cli.specs.declared.run_files.LoggedRun.{LoggedRun}
 use Rattle.opc_cli.specs.declared.run_files.RunFile.{RunFile}
-use Rattle.opc_cli.specs.Compares.{IsOtherSide, IsSideFrom, refused_status}
+use Rattle.opc_cli.specs.Compares.{IsOtherSide, IsSideFrom}
 use Rattle.opc_cli.specs.DryRuns.{IsDryRunAt}
 use Rattle.opc_cli.specs.Reads.{AccountOf, AnswerTo, DatabaseQuestion, IsReadAt}
 use Rattle.opc_cli.specs.Works.{AreLinesInMemory, IsRunInMemory, IsWorkAt, unknown_log, unknown_moment, unknown_opening}
@@ -82,15 +75,6 @@ status_of_work end (Ok files) = status_of_end end
 status_of_work end (Err kept) = Failed
 
 module _ {E : Type 0} (shown : E → Option (List ℕ)) where
-  -- A fault was printed first, unless a write failed.
-  abbrev pub IsFaultReported : (quiet reported : Watched E) → Fault → Type 0
-  IsFaultReported quiet reported fault = reported.failed ≡ false
-      → IsReported fault (shown quiet.inner) (shown reported.inner)
-
-  -- If it failed, its fault was.
-  abbrev pub IsEndReported : (quiet reported : Watched E) → Result Status Failure → Type 0
-  IsEndReported quiet reported end = IfErr end (λ failure. IsFaultReported quiet reported failure.fault)
-
   -- For an export that made the tables, that was printed, unless a write failed. For any other operation nothing was.
   abbrev pub IsMadeNoted : (quiet noted : Watched E) → (path : List ℕ) → Work → (are_made : Bool) → Type 0
   IsMadeNoted quiet noted path work.Export true = noted.failed ≡ false
@@ -101,10 +85,10 @@ module _ {E : Type 0} (shown : E → Option (List ℕ)) where
   abbrev pub IsWorkReported : {A B : Type 0} → (quiet reported : Watched E)
       → Result Status Failure → (closed : Result A B)
       → Type 0
-  IsWorkReported quiet reported end (Ok files) = IsEndReported quiet reported end
+  IsWorkReported quiet reported end (Ok files) = IsEndReported shown quiet reported end
   IsWorkReported quiet reported end (Err kept) =
-      (first : Watched E) × IsEndReported quiet first end × (reported.failed ≡ false → first.failed ≡ false)
-      × IsFaultReported first reported Store
+      (first : Watched E) × IsEndReported shown quiet first end × (reported.failed ≡ false → first.failed ≡ false)
+      × IsFaultReported shown first reported Store
 
 -- The program ran over new tables in memory. Nothing is known about what the files of the system hold.
 pub record IsDoneInMemory {W E : Type 0} (contents : W → Option (List ℕ)) (shown : E → Option (List ℕ))
@@ -198,23 +182,6 @@ module _ {D : Type 0} (g : disk.Ghosts D) (is_fresh : Bool → D → Type 0) (im
 -- Two policies are compared.
 module _ {W E : Type 0} (contents : W → Option (List ℕ)) (shown : E → Option (List ℕ)) (before written : Watched W)
     (quiet reported : Watched E) (status : Status) where
-  -- A policy was not read, or a row of it is refused: that was reported, and nothing was written.
-  pub record IsSideRefused (fault : Fault) : Type 0 where
-    pub silent : written ≡ before
-    pub status_is : status ≡ refused_status (status_of fault)
-    pub fault_reported : IsFaultReported shown quiet reported fault
-
-  -- What changes from one to the other was written, and the status says whether rows differ.
-  pub record IsDifferencePrinted (form : Form) (old new : PolicySide) : Type 0 where
-    pub end : Result Status Failure
-    pub printed : IsWritten contents before.inner written.inner (IsDifference form old new) end
-    pub status_is : status ≡ status_of_end end
-    pub end_reported : IsEndReported shown quiet reported end
-
-  abbrev pub IsComparedWith : Form → (old : PolicySide) → (new : Result PolicySide Failure) → Type 0
-  IsComparedWith form old (Ok new) = IsDifferencePrinted form old new
-  IsComparedWith form old (Err failure) = IsSideRefused failure.fault
-
   -- The new policy was read after the old one.
   abbrev pub AreComparedWith : Comparison → (old : PolicySide) → Type 0
   AreComparedWith compared old = (new : Result PolicySide Failure) × IsOtherSide compared.new new
@@ -243,23 +210,6 @@ module _ {D : Type 0} (g : disk.Ghosts D) (is_as_read : Bool → D → Type 0) (
   abbrev pub IsDryRunInFile : Import → Type 0
   IsDryRunInFile import = IsDryRunDone import
       ⊎ IsUnread g is_as_read image contents shown before written quiet reported status
-
--- A question about a policy is answered by a policy file, which has this left.
-module _ {W E : Type 0} (contents : W → Option (List ℕ)) (shown : E → Option (List ℕ)) (before written : Watched W)
-    (quiet reported : Watched E) (status : Status) where
-  abbrev pub IsAnsweredByFile : PolicyQuestion → (left : Option (List ℕ)) → Type 0
-  IsAnsweredByFile (question.Ask ask) left =
-      IsReportedBy contents (λ (e : Watched E). shown e.inner) (λ (e : Watched E). e.failed) before.inner
-      written.inner quiet reported (IsQuestionAnswer ask) left status
-  IsAnsweredByFile (question.Check q) left =
-      IsReportedCheck contents (λ (e : Watched E). shown e.inner) (λ (e : Watched E). e.failed) before.inner
-      written.inner quiet reported q.form (option_copied q.allowed) left status
-  IsAnsweredByFile (question.May asked) left =
-      IsReportedBy contents (λ (e : Watched E). shown e.inner) (λ (e : Watched E). e.failed) before.inner
-      written.inner quiet reported (IsMayAnswer asked) left status
-  IsAnsweredByFile (question.Sheet name) left =
-      IsReportedBy contents (λ (e : Watched E). shown e.inner) (λ (e : Watched E). e.failed) before.inner
-      written.inner quiet reported (IsFileSheet name.now left) left status
 
 -- `image` is what a database file holds.
 module _ {D : Type 0} (g : disk.Ghosts D) (is_fresh : Bool → D → Type 0) (image : Image) {W E : Type 0}

@@ -1,16 +1,14 @@
 //! `opcmds diff`: two policies, each of a file or of a database.
-ghost use Rattle.std.specs.Prelude.{◌≡◌};
 ghost use Rattle.sqlite.specs.WalFiles.{image_at};
 ghost use Rattle.opc_store_file.specs.Copies.{IsAsRead};
-ghost use Rattle.opc_cli.specs.Compares.{IsOtherSide, IsSideFrom, IsSideIn, refused_status};
-ghost use Rattle.opc_cli.specs.Words.{AreCompared, AreComparedWith, IsFaultReported};
-ghost use Rattle.opc_cli_failures.specs.Statuses.{status_of};
+ghost use Rattle.opc_cli.specs.Compares.{IsOtherSide, IsSideFrom, IsSideIn};
+ghost use Rattle.opc_cli.specs.Words.{AreCompared, AreComparedWith};
 ghost use Rattle.opc_cli_questions.specs.Sides.{IsMade};
 
 use crate::reading::not_read;
-use opc_cli_failures::failure::{Failure, NO_PATHS, Paths, reported};
+use opc_cli_failures::failure::Failure;
 use opc_cli_failures::status::Status;
-use opc_cli_questions::difference_printing::print_difference;
+use opc_cli_questions::comparing::{compare_with, side_refused};
 use opc_cli_questions::sides::{PolicySide, side_at, side_on};
 use opc_cli_tasks::question::Comparison;
 use opc_cli_tasks::source::NamedPolicy;
@@ -47,45 +45,8 @@ fn side_from<S: Start>(
     }
 }
 
-/// The file that messages name.
-fn paths_of<'a>(named: &NamedPolicy<'a>) -> Paths<'a> {
-    let (database, policy) = match *named {
-        NamedPolicy::File(path) => (None, Some(path)),
-        NamedPolicy::Database(path) => (Some(path), None),
-    };
-    Paths {
-        database,
-        policy,
-        socket: None,
-        log: None,
-        policies: None,
-    }
-}
-
-/// A row that is refused is bad input, since another status says that rows differ.
-fn refused_status(status: Status) -> Status
-    ensures { result ≡ refused_status status }
-{
-    match status {
-        Status::Refused => Status::BadInput,
-        Status::Done | Status::BadInput | Status::Failed => status,
-    }
-}
-
-/// Reports why a policy was not read or its rows not applied.
-fn side_refused<E: Write>(
-    failure: Failure,
-    named: &NamedPolicy<'_>,
-    errors: &mut Watched<E>,
-) -> Status
-    ensures status { result ≡ refused_status (status_of failure.fault) }
-    ensures reported { IsFaultReported E.contents errors.old errors.new failure.fault }
-{
-    refused_status(reported(Err(failure), &paths_of(named), errors))
-}
-
 /// Compares a policy with the one that is named, and prints what changes.
-fn compare_with<W: Write, E: Write>(
+fn compare_with_named<W: Write, E: Write>(
     rt: &HostRuntime,
     old: PolicySide,
     compared: &Comparison<'_>,
@@ -96,14 +57,8 @@ fn compare_with<W: Write, E: Write>(
         compared.now old }
 {
     // What `start` states is known of one file alone.
-    match side_from(rt, Wary, &compared.new) {
-        Ok(new) => {
-            let (alloc, form) = (rt.alloc(), compared.form);
-            let end = print_difference(alloc, form, old, new, &mut output.inner);
-            reported(end, &NO_PATHS, errors)
-        }
-        Err(failure) => side_refused(failure, &compared.new, errors),
-    }
+    let new = side_from(rt, Wary, &compared.new);
+    compare_with(rt.alloc(), old, new, compared, output, errors)
 }
 
 /// Compares two policies: prints what changes from the old to the new one, and returns whether rows differ.
@@ -118,7 +73,7 @@ pub(crate) fn compare<S: Start, W: Write, E: Write>(
         ⟦<CopyFrom<S> as Disk>⟧ IsAsRead (image_at S.Start) compared.now }
 {
     match side_from(rt, start, &compared.old) {
-        Ok(old) => compare_with(rt, old, compared, output, errors),
+        Ok(old) => compare_with_named(rt, old, compared, output, errors),
         Err(failure) => side_refused(failure, &compared.old, errors),
     }
 }

@@ -17,3 +17,6 @@ pub mod EmptyRoom
 pub mod Sides
 pub mod Sheets
 pub mod Differences
+pub mod FileAnswers
+pub mod Reported
+pub mod Compared

@@ -184,7 +184,7 @@ fn is_typed(rt: &HostRuntime) -> bool {
 /// The Unix socket at which an operation listens.
 fn socket_of<'a>(work: &Work<'a>) -> Option<&'a str> {
     match work {
-        Work::Serve(serve) => match serve.address {
+        Work::Serve(serve) => match serve.clients.address {
             Address::Socket { path, .. } => Some(path),
             Address::Port(_) => None,
         },

@@ -20,6 +20,7 @@ use Rattle.opc_cli_failures.specs.declared.status.Status.TheVariants.{Done, Fail
 use Rattle.opc_cli_failures.specs.Statuses.{IsErrorAt, status_of_end}
 use Rattle.opc_cli_tasks.specs.declared.work.Address.{Address}
 use Rattle.opc_cli_tasks.specs.declared.work.Address.TheVariants.{Port, Socket}
+use Rattle.opc_cli_tasks.specs.declared.work.Clients.{Clients}
 use Rattle.opc_cli_tasks.specs.declared.work.Serve.{Serve}
 use Rattle.opc_cli_program.specs.Listening.{listening_line, socket_line}
 use Rattle.opc_cli_program.specs.ServiceLogs.{IsLineAdded, IsLogFor}
@@ -43,22 +44,22 @@ pub record IsNotBegun {T : Type 0} (old new : T) (end : Result Status Failure) :
 module _ {T : Type 0} (m : Meaning T) {W N A : Type 0} (held : W → Option (List ℕ)) (has_failed : W → Bool)
     (holds : N → (folder text : List ℕ) → Bool → Type 0) (writes : N → (folder text : List ℕ) → A → Type 0)
     (publishes : N → (folder name : List ℕ) → A → Type 0)
-    (old new : T) (trail : ServiceTrail W N) (serve : Serve) (end : Result Status Failure) where
+    (old new : T) (trail : ServiceTrail W N) (terms : Clients) (end : Result Status Failure) where
   module _ {C K : Type 0} (source : ClientSource C K) where
     -- As many connections as requested were served, with the requested timeout; or fewer were, and then none could be
     -- accepted. The exchanges are in the log, if there is one, and the states that they led to in the folder, if there
     -- is one. The program ended accordingly.
     pub record AreClients (origins : Origins) : Type 0 where
       pub served : Result (Unit {0}) ServeFault
-      pub handled : AreHandled origins m source.link source.comes serve.timeout old new serve.count served
+      pub handled : AreHandled origins m source.link source.comes terms.timeout old new terms.count served
       pub timer : K
       pub last : Option W
       pub logged : ServesClients source.link origins (IsLineAdded held has_failed origins) source.comes timer
-          serve.timeout trail.log serve.count served last
+          terms.timeout trail.log terms.count served last
       pub kept : m.is_sure new → (s : State) → m.represents old s
           → (gone : State × ServiceTrail W N) × m.represents new gone.0
           × ServesClients source.link origins (IsPolicyExchange holds writes publishes held has_failed origins)
-          source.comes timer serve.timeout (s, trail) serve.count served gone
+          source.comes timer terms.timeout (s, trail) terms.count served gone
       pub ends : IsEndOfService served end
 
     -- It failed before its first client; or it printed its socket, and then clients were served.
@@ -73,7 +74,7 @@ module _ {T : Type 0} (m : Meaning T) {W N A : Type 0} (held : W → Option (Lis
     IsPortService said =
         IsNotBegun old new end
         ⊎ ((listener : L) × (port : ℕ) × said listener port
-        × AreClients (clients_of listener) (origins_at serve.strict port))
+        × AreClients (clients_of listener) (origins_at terms.strict port))
 
     -- It failed before its first client; or it printed its socket, and then the clients of that one were served.
     abbrev pub IsSocketService : (said : L → Type 0) → Type 0
@@ -98,9 +99,9 @@ pub record IsServiceBegun {T : Type 0} (m : Meaning T) {C D K L S W N A : Type 0
   pub brought : m.is_sure started → (s : State) → m.represents old s
       → IsFolder holds writes publishes folders serve.policies s folder
   pub serves : IsServiceAt m (λ (w : Watched W). contents w.inner) (λ (w : Watched W). w.failed) holds writes publishes
-      started new (record { log = log; folder = folder }) serve end ports sockets
+      started new (record { log = log; folder = folder }) serve.clients end ports sockets
       (λ asked listener port. Appends before written (listening_line port))
-      (λ path mode socket. Appends before written (socket_line path)) serve.address
+      (λ path mode socket. Appends before written (socket_line path)) serve.clients.address
 
 -- Exchanges are logged, and the policy is brought into a folder, if that is requested. It failed before its first
 -- client, or clients were served.
@@ -110,7 +111,7 @@ pub record IsService {T : Type 0} (m : Meaning T) {C D K L S W N A : Type 0} (po
     (publishes : N → (folder name : List ℕ) → A → Type 0) (folders : N) (serve : Serve) (end : Result Status Failure)
     (before written : Option (List ℕ)) : Type 0 where
   pub log : Option (Watched W)
-  pub log_is : IsLogFor is_for_logs serve.log log
+  pub log_is : IsLogFor is_for_logs serve.clients.log log
   pub started : T
   pub start : IsStarted m serve.policies old started
   pub serves : IsNotBegun started new end

@@ -25,7 +25,7 @@ use crate::log_stream::LogStream;
 use crate::ports::Ports;
 use opc_cli_failures::failure::{Failure, Place};
 use opc_cli_failures::status::Status;
-use opc_cli_tasks::work::{Address, Serve};
+use opc_cli_tasks::work::{Address, Clients, Serve};
 use opc_gate::gate::Gate;
 use opc_http_connections::listener::ClientListener;
 use opc_http_connections::timer::Timer;
@@ -46,7 +46,7 @@ use std::io::Write;
 use std::rt::Clock;
 
 /// The status for a service.
-fn ended(served: Result<(), ServeFault>) -> Result<Status, Failure>
+pub(crate) fn ended(served: Result<(), ServeFault>) -> Result<Status, Failure>
     ensures { IsEndOfService served result }
 {
     match served {
@@ -73,7 +73,7 @@ fn routes_at(alloc: Global, strict: bool, port: u16) -> Result<Routes, Failure>
 }
 
 /// Where exchanges are logged, if anywhere.
-fn log_on<H: LogStream>(rt: &H, is_asked: bool) -> Option<Watched<H::Stream>>
+pub(crate) fn log_on<H: LogStream>(rt: &H, is_asked: bool) -> Option<Watched<H::Stream>>
     ensures { IsLogFor (H.is_for_logs rt.now) is_asked result }
 {
     if is_asked {
@@ -165,12 +165,12 @@ where
         tables result.1 (H.is_for_logs rt.entry.now) H.Stream.contents H.holds H.writes H.publishes rt.entry.now
         serve.now result.0 (W.contents output.old) (W.contents output.new) }
 {
-    let log = log_on(rt, serve.log);
+    let log = log_on(rt, serve.clients.log);
     let (brought, tables) = started(rt, tables, serve.policies);
     match brought {
         Ok(folder) => {
             let trail = ServiceTrail { log, folder };
-            serve_from(rt, ports, tables, trail, serve, output)
+            serve_from(rt, ports, tables, trail, &serve.clients, output)
         }
         Err(failure) => (Err(failure), tables),
     }
@@ -191,7 +191,7 @@ fn serve_from<
     ports: &P,
     tables: T,
     trail: ServiceTrail<'_, K, N>,
-    serve: &Serve<'_>,
+    clients: &Clients<'_>,
     output: &mut W,
 ) -> (Result<Status, Failure>, T)
 where
@@ -200,21 +200,21 @@ where
     K: Drop,
     ensures sure { T.meaning.is_sure result.1 → T.meaning.is_sure tables }
     ensures serves { IsServiceAt T.meaning K.held K.has_failed N.holds N.writes N.publishes tables result.1 trail.entry
-        serve.now result.0
+        clients.now result.0
         (source_at (link_of L.Client.limits ⟦<H as Timer>⟧.shows L.Client.reads L.Client.remaining L.Client.contents)
         L.accepts L.Client.clones)
         (source_at (link_of S.Client.limits ⟦<H as Timer>⟧.shows S.Client.reads S.Client.remaining S.Client.contents)
         S.accepts S.Client.clones)
         (λ asked listener port. Appends (W.contents output.old) (W.contents output.new) (listening_line port))
         (λ path mode socket. Appends (W.contents output.old) (W.contents output.new) (socket_line path))
-        serve.now.address }
+        clients.now.address }
 {
     let gate = match Gate::new(rt.alloc(), tables) {
         Ok(gate) => gate,
         Err((fault, tables)) => return (Err(Failure::from(fault)), tables),
     };
     let mut service = Service { gate, trail };
-    let end = serve_service(rt, ports, &mut service, serve, output);
+    let end = serve_service(rt, ports, &mut service, clients, output);
     (end, service.gate.into_store())
 }
 
@@ -232,7 +232,7 @@ fn serve_service<
     rt: &H,
     ports: &P,
     service: &mut Service<'_, T, K, N>,
-    serve: &Serve<'_>,
+    clients: &Clients<'_>,
     output: &mut W,
 ) -> Result<Status, Failure>
 where
@@ -240,19 +240,19 @@ where
     S: Drop,
     ensures sure { T.meaning.is_sure service.new.gate → T.meaning.is_sure service.old.gate }
     ensures serves { IsServiceAt T.meaning K.held K.has_failed N.holds N.writes N.publishes service.old.gate
-        service.new.gate service.old.trail serve.now result
+        service.new.gate service.old.trail clients.now result
         (source_at (link_of L.Client.limits ⟦<H as Timer>⟧.shows L.Client.reads L.Client.remaining L.Client.contents)
         L.accepts L.Client.clones)
         (source_at (link_of S.Client.limits ⟦<H as Timer>⟧.shows S.Client.reads S.Client.remaining S.Client.contents)
         S.accepts S.Client.clones)
         (ListensAt P.binds P.is_at ports.now (W.contents output.old) (W.contents output.new))
         (ListensBy P.names P.permits P.listens ports.now P.removes (W.contents output.old) (W.contents output.new))
-        serve.now.address }
+        clients.now.address }
 {
-    match serve.address {
-        Address::Port(port) => serve_at_port(rt, ports, service, port, serve, output),
+    match clients.address {
+        Address::Port(port) => serve_at_port(rt, ports, service, port, clients, output),
         Address::Socket { path, mode } => {
-            serve_at_socket(rt, ports, service, path, mode, serve, output)
+            serve_at_socket(rt, ports, service, path, mode, clients, output)
         }
     }
 }
@@ -262,17 +262,24 @@ fn serve_by<H: AllocGlobal + Clock, L: ClientListener, T: Tables, K: Sink, N: Fo
     rt: &H,
     listener: &L,
     service: &mut Service<'_, T, K, N>,
-    serve: &Serve<'_>,
+    clients: &Clients<'_>,
     routes: &Routes,
 ) -> Result<Status, Failure>
     ensures sure { T.meaning.is_sure service.new.gate → T.meaning.is_sure service.old.gate }
     ensures serves { (origins : Origins) → routes.now ≡ origins
         → AreClients T.meaning K.held K.has_failed N.holds N.writes N.publishes service.old.gate
-        service.new.gate service.old.trail serve.now result
+        service.new.gate service.old.trail clients.now result
         (source_at (link_of L.Client.limits ⟦<H as Timer>⟧.shows L.Client.reads L.Client.remaining L.Client.contents)
         L.accepts L.Client.clones listener.now) origins }
 {
-    ended(serve_logged_on(rt, listener, serve.count, serve.timeout, routes, service))
+    ended(serve_logged_on(
+        rt,
+        listener,
+        clients.count,
+        clients.timeout,
+        routes,
+        service,
+    ))
 }
 
 /// Serves clients at a port.
@@ -289,22 +296,22 @@ fn serve_at_port<
     ports: &P,
     service: &mut Service<'_, T, K, N>,
     port: u16,
-    serve: &Serve<'_>,
+    clients: &Clients<'_>,
     output: &mut W,
 ) -> Result<Status, Failure>
 where
     L: Drop,
     ensures sure { T.meaning.is_sure service.new.gate → T.meaning.is_sure service.old.gate }
     ensures serves { IsPortService T.meaning K.held K.has_failed N.holds N.writes N.publishes service.old.gate
-        service.new.gate service.old.trail serve.now result
+        service.new.gate service.old.trail clients.now result
         (source_at (link_of L.Client.limits ⟦<H as Timer>⟧.shows L.Client.reads L.Client.remaining L.Client.contents)
         L.accepts L.Client.clones)
         (ListensAt P.binds P.is_at ports.now (W.contents output.old) (W.contents output.new) port) }
 {
     let (listener, given) = listen_at_port(ports, port)?;
-    let routes = routes_at(rt.alloc(), serve.strict, given)?;
+    let routes = routes_at(rt.alloc(), clients.strict, given)?;
     print_port(given, output)?;
-    serve_by(rt, &listener, service, serve, &routes)
+    serve_by(rt, &listener, service, clients, &routes)
 }
 
 /// Serves clients at a Unix socket. Its file is removed after that, if it is still the one at the path.
@@ -322,21 +329,21 @@ fn serve_at_socket<
     service: &mut Service<'_, T, K, N>,
     path: &str,
     mode: u32,
-    serve: &Serve<'_>,
+    clients: &Clients<'_>,
     output: &mut W,
 ) -> Result<Status, Failure>
 where
     S: Drop,
     ensures sure { T.meaning.is_sure service.new.gate → T.meaning.is_sure service.old.gate }
     ensures serves { IsSocketService T.meaning K.held K.has_failed N.holds N.writes N.publishes service.old.gate
-        service.new.gate service.old.trail serve.now result
+        service.new.gate service.old.trail clients.now result
         (source_at (link_of S.Client.limits ⟦<H as Timer>⟧.shows S.Client.reads S.Client.remaining S.Client.contents)
         S.accepts S.Client.clones)
         (ListensBy P.names P.permits P.listens ports.now P.removes (W.contents output.old) (W.contents output.new)
         path.now mode) }
 {
     let socket = listen_at_socket(ports, path, mode)?;
-    let end = serve_socket(rt, &socket, service, path, serve, output);
+    let end = serve_socket(rt, &socket, service, path, clients, output);
     ports.remove(path, &socket);
     end
 }
@@ -347,12 +354,12 @@ fn serve_socket<H: AllocGlobal + Clock, S: ClientListener, T: Tables, K: Sink, N
     socket: &S,
     service: &mut Service<'_, T, K, N>,
     path: &str,
-    serve: &Serve<'_>,
+    clients: &Clients<'_>,
     output: &mut W,
 ) -> Result<Status, Failure>
     ensures sure { T.meaning.is_sure service.new.gate → T.meaning.is_sure service.old.gate }
     ensures serves { AreClientsAfter T.meaning K.held K.has_failed N.holds N.writes N.publishes service.old.gate
-        service.new.gate service.old.trail serve.now result
+        service.new.gate service.old.trail clients.now result
         (source_at (link_of S.Client.limits ⟦<H as Timer>⟧.shows S.Client.reads S.Client.remaining S.Client.contents)
         S.accepts S.Client.clones socket.now)
         (Appends (W.contents output.old) (W.contents output.new) (socket_line path.now)) }
@@ -361,5 +368,5 @@ fn serve_socket<H: AllocGlobal + Clock, S: ClientListener, T: Tables, K: Sink, N
         return Err(Failure::from(Fault::NoMemory));
     };
     print_socket(path, output)?;
-    serve_by(rt, socket, service, serve, &routes)
+    serve_by(rt, socket, service, clients, &routes)
 }

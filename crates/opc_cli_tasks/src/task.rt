@@ -1,7 +1,7 @@
 //! What the command line asks for.
 use crate::question::{Comparison, PolicyQuestion};
 use crate::source::PolicySource;
-use crate::work::{Import, Lines, Work};
+use crate::work::{Decide, Import, Lines, Work};
 use opc_account::asked::AskedQuery;
 
 /// What the arguments ask for.
@@ -24,6 +24,8 @@ pub enum Task<'a> {
         /// Each request is logged in the file at this path.
         log: Option<&'a str>,
     },
+    /// Other programs are answered over HTTP.
+    Decide(Decide<'a>),
     /// The digest of the password on the input is printed.
     Digest,
     /// The table of the commands that an operator may type is printed.

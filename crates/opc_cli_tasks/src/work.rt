@@ -20,7 +20,7 @@ pub struct Import<'a> {
     pub file: Option<&'a str>,
 }
 
-/// Where `serve` listens.
+/// Where a service listens.
 #[derive(Clone, Copy)]
 pub enum Address<'a> {
     /// This port of 127.0.0.1; 0 is one that the system chooses.
@@ -29,9 +29,9 @@ pub enum Address<'a> {
     Socket { path: &'a str, mode: u32 },
 }
 
-/// How clients are served: at an address, and how many.
+/// Which clients are served, and how: those at an address, and how many.
 #[derive(Clone, Copy)]
-pub struct Serve<'a> {
+pub struct Clients<'a> {
     pub address: Address<'a>,
     pub count: u32,
     /// The longest that an exchange may take.
@@ -40,8 +40,23 @@ pub struct Serve<'a> {
     pub strict: bool,
     /// Each exchange is logged.
     pub log: bool,
+}
+
+/// Operators are served.
+#[derive(Clone, Copy)]
+pub struct Serve<'a> {
+    pub clients: Clients<'a>,
     /// The folder at this path gets each state of the policy.
     pub policies: Option<&'a str>,
+}
+
+/// The questions of other programs are answered, by the policy file at a path.
+#[derive(Clone, Copy)]
+pub struct Decide<'a> {
+    pub policy: &'a str,
+    /// The URL at which clients find it; that of its address if none is given.
+    pub base: Option<&'a str>,
+    pub clients: Clients<'a>,
 }
 
 /// An operation over tables.

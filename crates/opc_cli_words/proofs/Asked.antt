@@ -24,6 +24,8 @@ use Rattle.opc_cli_tasks.specs.declared.question.PolicyQuestion.TheVariants as q
 use Rattle.opc_cli_tasks.specs.declared.source.NamedPolicy.{NamedPolicy}
 use Rattle.opc_cli_tasks.specs.declared.source.PolicySource.{PolicySource}
 use Rattle.opc_cli_tasks.specs.declared.work.Address.{Address}
+use Rattle.opc_cli_tasks.specs.declared.work.Clients.{Clients}
+use Rattle.opc_cli_tasks.specs.declared.work.Decide.{Decide}
 use Rattle.opc_cli_tasks.specs.declared.work.Import.{Import}
 use Rattle.opc_cli_tasks.specs.declared.work.Lines.{Lines}
 use Rattle.opc_cli_tasks.specs.declared.work.Lines.TheVariants.{Script, Now}
@@ -47,14 +49,18 @@ use Rattle.opc_cli_words.specs.declared.mistake.Mistake.{Mistake}
 use Rattle.opc_cli_words.specs.Services.{IsAddress}
 use Rattle.opc_cli_words.specs.Sources.{IsNamed, IsSource}
 use Rattle.opc_cli_words.specs.Options.{
+  AreClientsAsked,
   IsAsk,
   IsAskedBy,
   IsComparison,
+  IsDecision,
   IsImport,
   IsMayQuestion,
   IsPolicyCheck,
   IsService,
   actor_in,
+  client_checks,
+  decision_checks,
   form_of,
   import_checks,
   is_set,
@@ -62,7 +68,6 @@ use Rattle.opc_cli_words.specs.Options.{
   may_checks,
   policy_checks,
   question_checks,
-  service_checks,
   sheet_checks,
   who_checks,
 }
@@ -131,14 +136,23 @@ module _ (one other : List ℕ → Option (List ℕ)) (same : (name : List ℕ) 
     file = is.file ∙ same (codes "file");
   }
 
+  clients : (c : Clients) → AreClientsAsked one c → AreClientsAsked other c
+  clients c are = record {
+    address = at_once (same (codes "port")) (same (codes "socket")) (same (codes "socket-mode")) c.address are.address;
+    count = of_given (number_between 1 1_000_000) (codes "count") ∙ are.count;
+    waits = of_given (λ (text : List ℕ). option_map longest (number_between 0 3_600 text)) (codes "timeout") ∙ are.waits;
+    strict = are.strict ∙ set (codes "strict");
+    log = are.log ∙ set (codes "log");
+  }
+
   service : (s : Serve) → IsService one s → IsService other s
-  service s is = record {
-    address = at_once (same (codes "port")) (same (codes "socket")) (same (codes "socket-mode")) s.address is.address;
-    count = of_given (number_between 1 1_000_000) (codes "count") ∙ is.count;
-    waits = of_given (λ (text : List ℕ). option_map longest (number_between 0 3_600 text)) (codes "timeout") ∙ is.waits;
-    strict = is.strict ∙ set (codes "strict");
-    log = is.log ∙ set (codes "log");
-    policies = is.policies ∙ same (codes "policies");
+  service s is = record { clients = clients s.clients is.clients; policies = is.policies ∙ same (codes "policies") }
+
+  decision : (d : Decide) → IsDecision one d → IsDecision other d
+  decision d is = record {
+    policy = is.policy ∙ given (codes "policy");
+    base = is.base ∙ same (codes "base");
+    clients = clients d.clients is.clients;
   }
 
   first : (f : First) → IsFirst (one (codes "from")) (one (codes "last")) f → IsFirst (other (codes "from")) (other (codes "last")) f
@@ -202,6 +216,7 @@ module _ (one other : List ℕ → Option (List ℕ)) (same : (name : List ℕ) 
   task_is command (task.Work path work.Export) is = (is.0, is.1 ∙ given (codes "db"))
   task_is command (task.Work path (work.Serve s)) is = (is.0, is.1 ∙ given (codes "db"), service s is.2)
   task_is command (task.InMemory policy l log) is = (is.0, sym (same (codes "db")) ∙ is.1, run policy l log is.2)
+  task_is command (task.Decide d) is = (is.0, decision d is.1)
   task_is command task.Digest is = is
   task_is command task.Commands is = is
 
@@ -242,7 +257,7 @@ module _ (one other : List ℕ → Option (List ℕ)) (same : (name : List ℕ) 
   imports : import_checks one ≡ import_checks other
   imports = rw (same (codes "batch"), same (codes "console")) refl
 
-  services : service_checks one ≡ service_checks other
+  services : client_checks one ≡ client_checks other
   services =
       rw (
         same (codes "port"),
@@ -251,6 +266,19 @@ module _ (one other : List ℕ → Option (List ℕ)) (same : (name : List ℕ) 
         same (codes "strict"),
         same (codes "count"),
         same (codes "timeout"),
+      )
+      refl
+
+  decisions : decision_checks one ≡ decision_checks other
+  decisions =
+      rw (
+        same (codes "port"),
+        same (codes "socket"),
+        same (codes "socket-mode"),
+        same (codes "strict"),
+        same (codes "count"),
+        same (codes "timeout"),
+        same (codes "base"),
       )
       refl
 
@@ -307,7 +335,8 @@ module _ (one other : List ℕ → Option (List ℕ)) (same : (name : List ℕ) 
       (chosen (bytes_eq command (codes "may")) of_user
       (chosen (bytes_eq command (codes "diff")) refl
       (chosen (bytes_eq command (codes "sheet")) sheets
-      refl))))))))))))
+      (chosen (bytes_eq command (codes "decide")) decisions
+      refl)))))))))))))
 
 -- a name and rows that mean the same
 module _ {B : Type 0} (name_of : B → List ℕ) (rows_in : B → List Row) where

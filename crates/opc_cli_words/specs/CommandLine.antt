@@ -60,11 +60,16 @@ abbrev pub address_options : List Rule
 address_options =
     valued (codes "port") ∷ valued (codes "socket") ∷ valued (codes "socket-mode") ∷ flag (codes "strict") ∷ []
 
+abbrev pub client_options : List Rule
+client_options =
+    address_options
+    ++ preset (codes "count") (codes "1000000") ∷ preset (codes "timeout") (codes "30") ∷ flag (codes "log") ∷ []
+
 abbrev pub serve_options : List Rule
-serve_options =
-    needed (codes "db") ∷ address_options
-    ++ preset (codes "count") (codes "1000000") ∷ preset (codes "timeout") (codes "30") ∷ flag (codes "log")
-    ∷ valued (codes "policies") ∷ []
+serve_options = needed (codes "db") ∷ client_options ++ valued (codes "policies") ∷ []
+
+abbrev pub decide_options : List Rule
+decide_options = needed (codes "policy") ∷ client_options ++ valued (codes "base") ∷ []
 
 abbrev pub who_options : List Rule
 who_options = question_options ++ flag (codes "allowed") ∷ source_options
@@ -107,6 +112,7 @@ commands =
     ∷ command (codes "may") may_options
     ∷ command (codes "diff") diff_options
     ∷ command (codes "sheet") source_options
+    ∷ command (codes "decide") decide_options
     ∷ []
 
 -- the program before its commands: it has a version, a command is required, missing arguments are answered with the

@@ -1,4 +1,5 @@
 pub mod Accounts
+pub mod Bases
 pub mod Checks
 pub mod Codes
 pub mod Enquiries

@@ -38,8 +38,11 @@ use Rattle.opc_cli_tasks.specs.declared.question.Comparison.{Comparison}
 use Rattle.opc_cli_tasks.specs.declared.question.MayQuestion.{MayQuestion}
 use Rattle.opc_cli_tasks.specs.declared.question.PolicyCheck.{PolicyCheck}
 use Rattle.opc_cli_tasks.specs.declared.source.PolicySource.{PolicySource}
+use Rattle.opc_cli_tasks.specs.declared.work.Clients.{Clients}
+use Rattle.opc_cli_tasks.specs.declared.work.Decide.{Decide}
 use Rattle.opc_cli_tasks.specs.declared.work.Import.{Import}
 use Rattle.opc_cli_tasks.specs.declared.work.Serve.{Serve}
+use Rattle.opc_cli_words.specs.Bases.{base_check}
 use Rattle.opc_cli_words.specs.Checks.{Check}
 use Rattle.opc_cli_words.specs.Codes.{allow_check}
 use Rattle.opc_cli_words.specs.Enquiries.{
@@ -131,6 +134,9 @@ module _ (value : List ℕ → Option (List ℕ)) where
     not (is_set (codes "strict")) || is_some (value (codes "port")),
   )
 
+  abbrev pub base_option : Check
+  base_option = base_check (value (codes "base"))
+
   -- nobody logs on for nobody
   abbrev pub actor_option : (text : List ℕ) → Check
   actor_option text = (
@@ -170,10 +176,14 @@ module _ (value : List ℕ → Option (List ℕ)) where
   abbrev pub import_checks : List Check
   import_checks = batch_option ∷ console_option ∷ []
 
-  -- of `serve`,
-  abbrev pub service_checks : List Check
-  service_checks = address_checks (value (codes "port")) (value (codes "socket")) (value (codes "socket-mode"))
+  -- of which clients are served, and how: all those of `serve`,
+  abbrev pub client_checks : List Check
+  client_checks = address_checks (value (codes "port")) (value (codes "socket")) (value (codes "socket-mode"))
       ++ strict_option ∷ count_option ∷ timeout_option ∷ []
+
+  -- of `decide`,
+  abbrev pub decision_checks : List Check
+  decision_checks = base_option ∷ client_checks
 
   -- of `who`,
   abbrev pub who_checks : List Check
@@ -219,15 +229,25 @@ module _ (value : List ℕ → Option (List ℕ)) where
     pub console : import.console ≡ value (codes "console")
     pub file : option_copied import.file ≡ value (codes "file")
 
-  -- of `serve`
-  pub record IsService (serve : Serve) : Type 0 where
+  -- which clients are served, and how
+  pub record AreClientsAsked (clients : Clients) : Type 0 where
     pub address : IsAddress (value (codes "port")) (value (codes "socket")) (value (codes "socket-mode"))
-        serve.address
-    pub count : count_of ≡ Some serve.count
-    pub waits : IsWait serve.timeout
-    pub strict : serve.strict ≡ is_set (codes "strict")
-    pub log : serve.log ≡ is_set (codes "log")
+        clients.address
+    pub count : count_of ≡ Some clients.count
+    pub waits : IsWait clients.timeout
+    pub strict : clients.strict ≡ is_set (codes "strict")
+    pub log : clients.log ≡ is_set (codes "log")
+
+  -- the arguments of `serve`
+  pub record IsService (serve : Serve) : Type 0 where
+    pub clients : AreClientsAsked serve.clients
     pub policies : option_copied serve.policies ≡ value (codes "policies")
+
+  -- of `decide`
+  pub record IsDecision (decide : Decide) : Type 0 where
+    pub policy : decide.policy.now ≡ given (codes "policy")
+    pub base : option_copied decide.base ≡ value (codes "base")
+    pub clients : AreClientsAsked decide.clients
 
   -- of `may`
   pub record IsMayQuestion (source : PolicySource) (asked : MayQuestion) : Type 0 where

@@ -1,4 +1,4 @@
--- Where `opcmds serve` listens, by the values of its options --port, --socket and --socket-mode.
+-- Where a service listens, by the values of its options --port, --socket and --socket-mode.
 use Rattle.std.specs.Prelude.{
   ◌≡◌,
   ◌+◌,

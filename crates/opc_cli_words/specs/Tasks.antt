@@ -24,17 +24,19 @@ use Rattle.opc_cli_words.specs.Checks.{Check, first_mistake}
 use Rattle.opc_cli_words.specs.Options.{
   IsAsk,
   IsComparison,
+  IsDecision,
   IsImport,
   IsMayQuestion,
   IsPolicyCheck,
   IsService,
+  client_checks,
+  decision_checks,
   given,
   import_checks,
   is_set,
   may_checks,
   policy_checks,
   question_checks,
-  service_checks,
   sheet_checks,
   who_checks,
 }
@@ -54,7 +56,7 @@ module _ (value : List ℕ → Option (List ℕ)) where
       else if bytes_eq command (codes "run") then run_checks value
       else if bytes_eq command (codes "import") then import_checks value
       else if bytes_eq command (codes "export") then []
-      else if bytes_eq command (codes "serve") then service_checks value
+      else if bytes_eq command (codes "serve") then client_checks value
       else if bytes_eq command (codes "who") then who_checks value
       else if bytes_eq command (codes "check") then policy_checks value
       else if bytes_eq command (codes "account") then account_checks value
@@ -63,6 +65,7 @@ module _ (value : List ℕ → Option (List ℕ)) where
       else if bytes_eq command (codes "may") then may_checks value
       else if bytes_eq command (codes "diff") then []
       else if bytes_eq command (codes "sheet") then sheet_checks value
+      else if bytes_eq command (codes "decide") then decision_checks value
       else (wrong.NoCommand, false) ∷ []
 
   -- what a command of this name asks for
@@ -92,6 +95,7 @@ module _ (value : List ℕ → Option (List ℕ)) where
       (command ≡ codes "serve") × (path.now ≡ given value (codes "db")) × IsService value serve
   IsTaskOf command (task.InMemory policy lines log) =
       (command ≡ codes "run") × (value (codes "db") ≡ None) × IsRun value policy lines log
+  IsTaskOf command (task.Decide decide) = (command ≡ codes "decide") × IsDecision value decide
   IsTaskOf command task.Digest = command ≡ codes "digest"
   IsTaskOf command task.Commands = command ≡ codes "commands"
 

@@ -1,10 +1,11 @@
 //! The command line, as `clap` reads it: the commands and the options of each.
-ghost use Rattle.std.specs.Prelude.{◌≡◌, ◌∷◌, IfOk, false, codes, []};
-ghost use Rattle.clap.specs.Walk.{rule_of};
+ghost use Rattle.std.specs.Prelude.{◌≡◌, ◌∷◌, ℕ, List, IfOk, false, codes, []};
+ghost use Rattle.clap.specs.Walk.{Rule, rule_of};
 ghost use Rattle.clap.specs.Simple.{app_of};
 ghost use Rattle.opc_cli_words.specs.CommandLine.{
   IsCommand,
   address_options,
+  client_options,
   command_line,
   export_options,
   flag,
@@ -20,6 +21,7 @@ ghost use Rattle.opc_cli_words.specs.CommandLine.{
 
 use crate::account_command::account_command;
 use crate::check_command::check_command;
+use crate::decide_command::decide_command;
 use crate::diff_command::diff_command;
 use crate::question_commands::{explain_command, may_command, who_command};
 use crate::sheet::sheet_command;
@@ -53,6 +55,7 @@ Ask a policy      who       who may enter a command
                   check     what is wrong with it
                   diff      what changes from one policy to another
                   sheet     a page of all that (HTML)
+                  decide    answer programs that ask (AuthZEN)
 Run a room        run       answer a script, or a terminal (--now)
                   serve     answer over HTTP or a Unix socket
                   account   show the audit log
@@ -245,12 +248,12 @@ fn export_command<'a>(alloc: Global) -> Result<Command<'a>, AllocError>
     .arg(needed(alloc, "db", "FILE", "The database file"))
 }
 
-/// `serve` with the options that state where it listens, and what is refused there.
-fn with_address<'a>(alloc: Global, serve: Command<'a>) -> Result<Command<'a>, AllocError>
-    ensures { IfOk result (λ built. IsCommand serve.entry (codes "serve") (needed (codes "db") ∷ [])
-        → IsCommand built (codes "serve") (needed (codes "db") ∷ address_options)) }
+/// A command with the options that state where it listens, and what is refused there.
+fn with_address<'a>(alloc: Global, command: Command<'a>) -> Result<Command<'a>, AllocError>
+    ensures { IfOk result (λ built. (name : List ℕ) → (first : Rule) → IsCommand command.entry name (first ∷ [])
+        → IsCommand built name (first ∷ address_options)) }
 {
-    serve
+    command
         .arg(value(
             alloc,
             "port",
@@ -280,25 +283,15 @@ fn with_address<'a>(alloc: Global, serve: Command<'a>) -> Result<Command<'a>, Al
         ))
 }
 
-fn serve_command<'a>(alloc: Global) -> Result<Command<'a>, AllocError>
-    ensures { IfOk result (λ built. IsCommand built (codes "serve") serve_options) }
+/// A command with the options that state which clients it serves, and how.
+pub(crate) fn with_clients<'a>(
+    alloc: Global,
+    command: Command<'a>,
+) -> Result<Command<'a>, AllocError>
+    ensures { IfOk result (λ built. (name : List ℕ) → (first : Rule) → IsCommand command.entry name (first ∷ [])
+        → IsCommand built name (first ∷ client_options)) }
 {
-    let serve = command(
-        alloc,
-        "serve",
-        "Answers requests over HTTP, at a port of 127.0.0.1 or a Unix socket",
-        "opcmds serve --db FILE (--port NUMBER | --socket PATH) [OPTIONS]",
-        "Prints LISTENING 127.0.0.1:PORT or LISTENING unix:PATH once it answers. It\n\
-         serves one connection after another.\n\
-         \n\
-         Example: opcmds serve --db gate.db --port 8011 --count 1 &\n\
-         \x20        curl -s --retry 5 --retry-connrefused -d '{\"text\":\"D U\"}' \\\n\
-         \x20            http://127.0.0.1:8011/consoles/C1/command\n\
-         Status: 0 all connections were served, 2 invalid arguments,\n\
-         \x20       3 out of memory or a failed device",
-    )
-    .arg(needed(alloc, "db", "FILE", MADE_DATABASE))?;
-    with_address(alloc, serve)?
+    with_address(alloc, command)?
         .arg(preset(
             alloc,
             "count",
@@ -319,14 +312,34 @@ fn serve_command<'a>(alloc: Global) -> Result<Command<'a>, AllocError>
             "log",
             "Writes a line for each exchange to standard\n\
              error: when, where, who, what, and the outcome",
-        ))?
-        .arg(value(
-            alloc,
-            "policies",
-            "FOLDER",
-            "Keeps the policy there as current.csv, and each\n\
-             state of it under its time and its SHA-256",
         ))
+}
+
+fn serve_command<'a>(alloc: Global) -> Result<Command<'a>, AllocError>
+    ensures { IfOk result (λ built. IsCommand built (codes "serve") serve_options) }
+{
+    let serve = command(
+        alloc,
+        "serve",
+        "Answers requests over HTTP, at a port of 127.0.0.1 or a Unix socket",
+        "opcmds serve --db FILE (--port NUMBER | --socket PATH) [OPTIONS]",
+        "Prints LISTENING 127.0.0.1:PORT or LISTENING unix:PATH once it answers. It\n\
+         serves one connection after another.\n\
+         \n\
+         Example: opcmds serve --db gate.db --port 8011 --count 1 &\n\
+         \x20        curl -s --retry 5 --retry-connrefused -d '{\"text\":\"D U\"}' \\\n\
+         \x20            http://127.0.0.1:8011/consoles/C1/command\n\
+         Status: 0 all connections were served, 2 invalid arguments,\n\
+         \x20       3 out of memory or a failed device",
+    )
+    .arg(needed(alloc, "db", "FILE", MADE_DATABASE))?;
+    with_clients(alloc, serve)?.arg(value(
+        alloc,
+        "policies",
+        "FOLDER",
+        "Keeps the policy there as current.csv, and each\n\
+         state of it under its time and its SHA-256",
+    ))
 }
 
 fn digest_command<'a>(alloc: Global) -> Command<'a>
@@ -395,5 +408,6 @@ pub(crate) fn command_line<'a>(alloc: Global) -> Result<Command<'a>, AllocError>
         .subcommand(commands_command(alloc))?
         .subcommand(may_command(alloc)?)?
         .subcommand(diff_command(alloc)?)?
-        .subcommand(sheet_command(alloc)?)
+        .subcommand(sheet_command(alloc)?)?
+        .subcommand(decide_command(alloc)?)
 }

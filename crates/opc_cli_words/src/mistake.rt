@@ -2,6 +2,7 @@
 ghost use Rattle.std.specs.Prelude.{◌≡◌, OnOk, if◌then◌else◌, is_err, true};
 ghost use Rattle.std.specs.Io.KnownBytes.{Appends};
 ghost use Rattle.opc_cli_words.specs.Mistakes.{mistake_line, mistake_text};
+ghost use Rattle.opc_cli_words.specs.declared.mistake.Mistake.TheVariants as wrong;
 
 use opc_io::sink::{Sink, WriteFault, write_whole};
 
@@ -13,6 +14,7 @@ pub(crate) const ONE_TEXT: &[u8] = b"--command takes one text: --command 'C PAYR
 pub enum Opt {
     Allow,
     As,
+    Base,
     Batch,
     Class,
     Code,
@@ -44,6 +46,7 @@ impl Opt {
         match self {
             Opt::Allow => "allow",
             Opt::As => "as",
+            Opt::Base => "base",
             Opt::Batch => "batch",
             Opt::Class => "class",
             Opt::Code => "code",
@@ -94,9 +97,20 @@ pub enum Mistake {
     NoCommand,
 }
 
-/// Writes what is wrong, in words.
-fn write_mistake<K: Sink>(mistake: Mistake, errors: &mut K) -> Result<(), WriteFault>
-    ensures text { OnOk result (Appends (K.held errors.old) (K.held errors.new) (mistake_text mistake)) }
+/// Writes that a command needs one address.
+fn write_addresses<K: Sink>(command: &str, errors: &mut K) -> Result<(), WriteFault>
+    ensures text { OnOk result (Appends (K.held errors.old) (K.held errors.new)
+        (mistake_text command.now wrong.NotOneAddress)) }
+    ensures failed { K.has_failed errors.new ≡ (if is_err result then true else K.has_failed errors.old) }
+{
+    write_whole(errors, command.as_bytes())?;
+    write_whole(errors, b" needs exactly one of --port and --socket")
+}
+
+/// Writes what is wrong with the options of a command, in words.
+fn write_mistake<K: Sink>(command: &str, mistake: Mistake, errors: &mut K) -> Result<(), WriteFault>
+    ensures text { OnOk result (Appends (K.held errors.old) (K.held errors.new)
+        (mistake_text command.now mistake)) }
     ensures failed { K.has_failed errors.new ≡ (if is_err result then true else K.has_failed errors.old) }
 {
     match mistake {
@@ -115,10 +129,7 @@ fn write_mistake<K: Sink>(mistake: Mistake, errors: &mut K) -> Result<(), WriteF
             errors,
             b"LOGON is asked about at a console: give --console",
         ),
-        Mistake::NotOneAddress => write_whole(
-            errors,
-            b"serve needs exactly one of --port and --socket",
-        ),
+        Mistake::NotOneAddress => write_addresses(command, errors),
         Mistake::NotOneQuestion => write_whole(
             errors,
             b"a question needs exactly one of --command and --resource",
@@ -142,7 +153,7 @@ pub fn print_mistake<K: Sink>(
     ensures failed { K.has_failed errors.new ≡ (if is_err result then true else K.has_failed errors.old) }
 {
     write_whole(errors, b"error: ")?;
-    write_mistake(mistake, errors)?;
+    write_mistake(command, mistake, errors)?;
     write_whole(errors, b"; see opcmds ")?;
     write_whole(errors, command.as_bytes())?;
     write_whole(errors, b" --help\n")

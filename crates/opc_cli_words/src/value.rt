@@ -55,6 +55,7 @@ fn taken_by_any(option: Opt) -> &'static str {
         Opt::Level => "NONE, READ, UPDATE, CONTROL or ALTER",
         Opt::Class => "CONSOLE or OPERCMDS",
         Opt::As => "JOB, TSU, or STC: and a name of 1 to 8 of A to Z, 0 to 9, #, $ and @",
+        Opt::Base => "1 to 200 printable characters without spaces, double quotes and backslashes",
         Opt::Batch => "1 to 999999999",
         Opt::Port => "0 to 65535",
         Opt::Socket => "a path that is not empty",

@@ -24,6 +24,7 @@ use crate::account::account;
 use crate::check::check;
 use crate::command_line::command_line;
 use crate::command_question::command_question;
+use crate::decide::decide;
 use crate::diff::diff;
 use crate::import::import;
 use crate::may::may;
@@ -123,6 +124,7 @@ fn asked<'a>(command: &str, chosen: &ArgMatches<'a>) -> Result<Task<'a>, Mistake
         "may" => may(chosen),
         "diff" => Ok(diff(chosen)),
         "sheet" => sheet(chosen),
+        "decide" => decide(chosen),
         // The command line has no other command.
         _ => Err(Mistake::NoCommand),
     }

@@ -25,7 +25,7 @@ from .room import SECONDS, Ran, Room, asked
 
 HELPS = ("--help", "explain --help", "help explain", "run --help", "serve --help", "who --help", "check --help",
          "account --help", "digest --help", "commands --help", "may --help", "diff --help",
-         "sheet --help")
+         "sheet --help", "decide --help")
 # requests that leave rows in every table, with the batch
 SCRIPT = """\
 1 * JOBIN PAY JOB

@@ -8,6 +8,6 @@ returns-clause-serves g c =
       c.in_ok-listener.listener,
       c.in_ok-listener.given,
       (c.in_ok-listener.ensures.listens, c.in_ok-print_port.ensures.said),
-      c.serve_by.ensures.serves (origins_at c.args.serve.now.strict c.in_ok-listener.given)
+      c.serve_by.ensures.serves (origins_at c.args.clients.now.strict c.in_ok-listener.given)
           c.in_ok-routes.ensures.routes,
     )

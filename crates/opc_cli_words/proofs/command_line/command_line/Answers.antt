@@ -16,4 +16,5 @@ returns c =
     let command_10 = one_command_more _ _ _ _ _ _ command_9 c.commands_command.ensures c.in_ok-subcommand-10.ensures in
     let command_11 = one_command_more _ _ _ _ _ _ command_10 c.in_ok-may_command.ensures c.in_ok-subcommand-11.ensures in
     let command_12 = one_command_more _ _ _ _ _ _ command_11 c.in_ok-diff_command.ensures c.in_ok-subcommand-12.ensures in
-    IfOk-weaker c.subcommand-13.result _ _ (λ built. one_command_more _ built _ _ _ _ command_12 c.in_ok-sheet_command.ensures) c.subcommand-13.ensures
+    let command_13 = one_command_more _ _ _ _ _ _ command_12 c.in_ok-sheet_command.ensures c.in_ok-subcommand-13.ensures in
+    IfOk-weaker c.subcommand-14.result _ _ (λ built. one_command_more _ built _ _ _ _ command_13 c.in_ok-decide_command.ensures) c.subcommand-14.ensures

@@ -7,7 +7,7 @@ use Rattle.opc_cli_words.proofs.mistake.write_mistake.Goals as goal
 pub returns-in_ok-write_whole-in-Unread-clause-text : goal.returns-in_ok-write_whole-in-Unread-clause-text
 returns-in_ok-write_whole-in-Unread-clause-text g c =
     last_piece c.write_whole-in-Unread.result _ _ _ _ _ _
-    (ap mistake_text c.in-Unread.is
+    (ap (mistake_text c.args.command.now) c.in-Unread.is
     ∙ ap (λ name. codes "invalid value for --" ++ name) (sym (c.as_bytes.ensures.value ∙ c.name.ensures)))
     c.in_ok-write_whole-in-Unread.ensures.ok c.write_whole-in-Unread.ensures.ok
 
@@ -15,7 +15,7 @@ pub returns-in-LogonNowhere-clause-text : goal.returns-in-LogonNowhere-clause-te
 returns-in-LogonNowhere-clause-text g c = rw c.in-LogonNowhere.is c.write_whole-in-LogonNowhere.ensures.ok
 
 pub returns-in-NotOneAddress-clause-text : goal.returns-in-NotOneAddress-clause-text
-returns-in-NotOneAddress-clause-text g c = rw c.in-NotOneAddress.is c.write_whole-in-NotOneAddress.ensures.ok
+returns-in-NotOneAddress-clause-text g c = rw c.in-NotOneAddress.is c.write_addresses.ensures.text
 
 pub returns-in-NotOneQuestion-clause-text : goal.returns-in-NotOneQuestion-clause-text
 returns-in-NotOneQuestion-clause-text g c = rw c.in-NotOneQuestion.is c.write_whole-in-NotOneQuestion.ensures.ok

@@ -5,7 +5,7 @@ use Rattle.opc_cli_words.specs.Checks.{first_mistake}
 use Rattle.opc_cli_words.specs.Options.{count_option, strict_option, timeout_option}
 use Rattle.opc_cli_words.specs.Services.{address_checks}
 use Rattle.opc_cli_words.proofs.Mistakes.{first_stays}
-use Rattle.opc_cli_words.proofs.serve.serve.Goals as goal
+use Rattle.opc_cli_words.proofs.clients.clients_in.Goals as goal
 
 pub returns-in_err-address : goal.returns-in_err-address
 returns-in_err-address c =

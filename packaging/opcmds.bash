@@ -7,7 +7,7 @@ _opcmds() {
         return
     fi
     if ((COMP_CWORD == 1)) || [[ ${COMP_WORDS[1]} == help && $COMP_CWORD == 2 ]]; then
-        mapfile -t COMPREPLY < <(compgen -W 'who may explain check diff sheet run serve account import export digest commands help' -- "$word")
+        mapfile -t COMPREPLY < <(compgen -W 'who may explain check diff sheet decide run serve account import export digest commands help' -- "$word")
         return
     fi
     if [[ $before == = ]]; then
@@ -22,6 +22,7 @@ _opcmds() {
         check) options='--policy --db --allow --json --help' ;;
         diff) options='--json --help' ;;
         sheet) options='--policy --db --help' ;;
+        decide) options='--policy --port --socket --socket-mode --strict --count --timeout --log --base --help' ;;
         run) options='--db --policy --now --console --log --help' ;;
         serve) options='--db --port --socket --socket-mode --strict --count --timeout --log --policies --help' ;;
         account) options='--db --from --last --count --since --until --user --console --code --json --help' ;;
@@ -45,6 +46,9 @@ _opcmds() {
         "check --allow") mapfile -t COMPREPLY < <(compgen -W 'N01 N02 N03 N04 N05 N06 N08 N09 N10 N11 N12 N13 N14 N15 N16 N17 N18 N19 N20' -- "$word"); return ;;
         "check --policy" | "check --db") compopt -o filenames; mapfile -t COMPREPLY < <(compgen -f -- "$word"); return ;;
         "sheet --policy" | "sheet --db") compopt -o filenames; mapfile -t COMPREPLY < <(compgen -f -- "$word"); return ;;
+        "decide --socket-mode") mapfile -t COMPREPLY < <(compgen -W '600 660 666' -- "$word"); return ;;
+        "decide --policy" | "decide --socket") compopt -o filenames; mapfile -t COMPREPLY < <(compgen -f -- "$word"); return ;;
+        "decide --port" | "decide --count" | "decide --timeout" | "decide --base") return ;;
         "run --db" | "run --policy" | "run --log") compopt -o filenames; mapfile -t COMPREPLY < <(compgen -f -- "$word"); return ;;
         "run --console") return ;;
         "serve --socket-mode") mapfile -t COMPREPLY < <(compgen -W '600 660 666' -- "$word"); return ;;

@@ -56,6 +56,7 @@ use Rattle.opc_cli_questions.specs.Printed.{left_in}
 use Rattle.opc_cli_questions.specs.Reported.{IsEndReported, IsFaultReported}
 use Rattle.opc_cli_questions.specs.declared.sides.PolicySide.{PolicySide}
 use Rattle.opc_cli_tasks.specs.declared.question.Comparison.{Comparison}
+use Rattle.opc_cli_tasks.specs.declared.work.Decide.{Decide}
 use Rattle.opc_cli_tasks.specs.declared.work.Import.{Import}
 use Rattle.opc_cli_tasks.specs.declared.work.Work.{Work}
 use Rattle.opc_cli_tasks.specs.declared.work.Work.TheVariants as work
@@ -64,6 +65,7 @@ use Rattle.opc_cli.specs.RunFiles.{IsApart, IsShared, logged_run, unknown_files}
 use Rattle.opc_cli.specs.declared.run_files.LoggedRun.{LoggedRun}
 use Rattle.opc_cli.specs.declared.run_files.RunFile.{RunFile}
 use Rattle.opc_cli.specs.Compares.{IsOtherSide, IsSideFrom}
+use Rattle.opc_cli.specs.Deciding.{IsServedBy, IsTried}
 use Rattle.opc_cli.specs.DryRuns.{IsDryRunAt}
 use Rattle.opc_cli.specs.Reads.{AccountOf, AnswerTo, DatabaseQuestion, IsReadAt}
 use Rattle.opc_cli.specs.Works.{AreLinesInMemory, IsRunInMemory, IsWorkAt, unknown_log, unknown_moment, unknown_opening}
@@ -179,17 +181,34 @@ module _ {D : Type 0} (g : disk.Ghosts D) (is_fresh : Bool → D → Type 0) (im
       × IsReadInFile g is_fresh image contents shown before written quiet reported status
       (AccountOf (query_at now asked)))
 
--- Two policies are compared.
+-- Two policies are compared, or other programs are answered by one.
 module _ {W E : Type 0} (contents : W → Option (List ℕ)) (shown : E → Option (List ℕ)) (before written : Watched W)
     (quiet reported : Watched E) (status : Status) where
+  -- Other programs were answered.
+  pub record IsDecideServed (decide : Decide) : Type 0 where
+    pub end : Result Status Failure
+    pub served : IsServedBy contents before.inner written.inner decide end
+    pub status_is : status ≡ status_of_end end
+    pub end_reported : IsEndReported shown quiet reported end
+
+  abbrev pub IsDecideAfter : Decide → (tried : Result (Unit {0}) Failure) → Type 0
+  IsDecideAfter decide (Ok done) = IsDecideServed decide
+  IsDecideAfter decide (Err failure) =
+      IsSideRefused contents shown before written quiet reported status failure.fault
+
+  -- The policy file was read and loaded, and then they were.
+  abbrev pub IsDecideDone : Decide → Type 0
+  IsDecideDone decide = (tried : Result (Unit {0}) Failure) × IsTried tried × IsDecideAfter decide tried
+
   -- The new policy was read after the old one.
   abbrev pub AreComparedWith : Comparison → (old : PolicySide) → Type 0
   AreComparedWith compared old = (new : Result PolicySide Failure) × IsOtherSide compared.new new
-      × IsComparedWith compared.form old new
+      × IsComparedWith contents shown before written quiet reported status compared.form old new
 
   abbrev pub AreComparedBy : Comparison → (old : Result PolicySide Failure) → Type 0
   AreComparedBy compared (Ok old) = AreComparedWith compared old
-  AreComparedBy compared (Err failure) = IsSideRefused failure.fault
+  AreComparedBy compared (Err failure) =
+      IsSideRefused contents shown before written quiet reported status failure.fault
 
   module _ {D : Type 0} (g : disk.Ghosts D) (is_as_read : Bool → D → Type 0) (image : Image) where
     -- The old policy was read first. If it is that of a database file, this is what the file holds.
@@ -278,6 +297,7 @@ module _ {D C : Type 0} (g : disk.Ghosts D) (is_fresh : Bool → D → Type 0) (
       IsWorkInFile g is_fresh image contents shown left before written quiet reported status path.now work
   IsTaskDone (task.InMemory policy lines log) =
       IsInMemory contents shown left before written quiet reported status policy lines log
+  IsTaskDone (task.Decide decide) = IsDecideDone contents shown before written quiet reported status decide
   IsTaskDone task.Digest = IsDigestAnswered g is_fresh image contents shown left before written quiet reported status
   IsTaskDone task.Commands = AreCommandsListed contents shown before written quiet reported status
 

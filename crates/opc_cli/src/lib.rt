@@ -7,6 +7,7 @@ mod account;
 mod commands;
 mod comparing;
 mod database;
+mod deciding;
 pub mod dry_run;
 pub mod file;
 mod input;
@@ -42,6 +43,7 @@ use crate::account::show_account;
 use crate::commands::list_commands;
 use crate::comparing::compare;
 use crate::database::reason_at;
+use crate::deciding::decide;
 use crate::dry_run::dry_run_in_file;
 use crate::file::{Closed, EndedWork, if_missing, work_at};
 use crate::input::do_by_input;
@@ -56,7 +58,7 @@ use opc_cli_failures::failure::{Failure, NO_PATHS, Paths, Place, reported};
 use opc_cli_failures::reason::Reason;
 use opc_cli_failures::status::Status;
 use opc_cli_tasks::task::Task;
-use opc_cli_tasks::work::{Address, Work};
+use opc_cli_tasks::work::{Address, Clients, Work};
 use opc_cli_words::joined::joined;
 use opc_cli_words::words::read_words;
 use opc_io::watched::Watched;
@@ -170,6 +172,7 @@ fn do_task<S: Start, R: Read, W: Write, E: Write>(
         Task::InMemory { policy, lines, log } => {
             run_without_file(rt, *policy, lines, *log, input, output, errors)
         }
+        Task::Decide(asked) => decide(rt, asked, output, errors),
         Task::Digest => {
             let is_typed = is_typed(rt);
             answer_password(rt.alloc(), input, is_typed, &mut output.inner, errors)
@@ -181,13 +184,17 @@ fn do_task<S: Start, R: Read, W: Write, E: Write>(
 fn is_typed(rt: &HostRuntime) -> bool {
     rt.stdin().is_terminal() && rt.stderr().is_terminal()
 }
+/// The Unix socket at which clients are served.
+fn socket_at<'a>(clients: &Clients<'a>) -> Option<&'a str> {
+    match clients.address {
+        Address::Socket { path, .. } => Some(path),
+        Address::Port(_) => None,
+    }
+}
 /// The Unix socket at which an operation listens.
 fn socket_of<'a>(work: &Work<'a>) -> Option<&'a str> {
     match work {
-        Work::Serve(serve) => match serve.clients.address {
-            Address::Socket { path, .. } => Some(path),
-            Address::Port(_) => None,
-        },
+        Work::Serve(serve) => socket_at(&serve.clients),
         // No other operation listens.
         _ => None,
     }

@@ -9,3 +9,4 @@ mod Logs
 mod Unlogged
 pub mod Answering
 mod Tried
+pub mod Decisions

@@ -10,3 +10,4 @@ pub mod Imports
 pub mod InputFiles
 pub mod Works
 pub mod DryRuns
+pub mod Decisions

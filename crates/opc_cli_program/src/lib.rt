@@ -1,6 +1,8 @@
-//! What the program `opcmds` does over tables that are open: runs, imports, exports and the service.
+//! What the program `opcmds` does over tables that are open, runs, imports, exports and the service; and how it answers
+//! other programs.
 #![tactic(auto)]
 
+pub mod decide;
 pub mod dry_run;
 pub mod import;
 pub mod input_file;

@@ -23,3 +23,6 @@ returns-in-Digest g c = rw c.in-Digest.is (c.is_typed-is_typed.result, c.answer_
 
 pub returns-in-Commands : goal.returns-in-Commands
 returns-in-Commands g c = rw c.in-Commands.is c.list_commands.ensures
+
+pub returns-in-Decide : goal.returns-in-Decide
+returns-in-Decide g c = rw c.in-Decide.is c.decide.ensures

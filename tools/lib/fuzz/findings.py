@@ -9,7 +9,7 @@ from typing import Callable, Iterator, NamedTuple
 
 from lib.model import names
 from lib.model.comparing import shortened
-from . import databases, policies, requests, scripts, words
+from . import databases, policies, questions, requests, scripts, words
 from .bases import Base
 from .inputs import Input, written
 from .runs import Wrong
@@ -27,13 +27,14 @@ class Kind(NamedTuple):
 
 
 KINDS = {
-    "policies": Kind(lambda chance, base, size: policies.make(chance), 2_600),
+    "policies": Kind(lambda chance, base, size: policies.make(chance), 2_100),
     "scripts": Kind(lambda chance, base, size: scripts.make(chance), 1_000),
     "databases": Kind(lambda chance, base, size: databases.make(chance, base), 900),
     "heads": Kind(requests.make(requests.turned_head), 1_500, requests.GROUP),
     "targets": Kind(requests.make(requests.turned_target), 1_000, requests.GROUP),
     "bodies": Kind(requests.make(requests.turned_body), 1_500, requests.GROUP),
-    "words": Kind(lambda chance, base, size: words.make(chance), 1_500),
+    "questions": Kind(questions.make, 1_000, requests.GROUP),
+    "words": Kind(lambda chance, base, size: words.make(chance), 1_000),
 }
 
 

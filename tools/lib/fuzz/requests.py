@@ -105,11 +105,7 @@ def copied(state: State) -> State:
 
 def answer(state: State, data: bytes, strict: int | None) -> bytes:
     """The model's response, also by a strict service at this port."""
-    try:
-        return exchange.exchange(state, CLOCK, heads.sent(data), strict)
-    except RecursionError:
-        # a body of so many brackets that Python gives up; none of those that are made closes them all
-        return exchange.refused(400, "H400", exchange.PHRASES[400])
+    return exchange.exchange(state, CLOCK, heads.sent(data), strict)
 
 
 def wants_response(service: Service, data: bytes, wanted: bytes) -> None:

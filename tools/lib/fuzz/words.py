@@ -14,6 +14,7 @@ from .inputs import Input, shown, written
 from .runs import Word, Wrong, run, wants_answer, wants_end
 
 FILE = "policy.csv"
+ADDRESS = ("port", "socket", "socket-mode", "strict", "count", "timeout")
 OPTIONS = {
     "explain": {
         "user": True, "class": False, "resource": True, "console": False, "level": True, "policy": False, "db": False,
@@ -21,11 +22,10 @@ OPTIONS = {
     "run": {"db": False, "policy": False},
     "import": {"db": True, "batch": True, "console": False},
     "export": {"db": True},
-    "serve": {
-        "db": True, "port": False, "socket": False, "socket-mode": False, "strict": False, "count": False,
-        "timeout": False,
-    },
+    "serve": {"db": True, **dict.fromkeys(ADDRESS, False)},
+    "decide": {"policy": True, **dict.fromkeys((*ADDRESS, "base"), False)},
 }
+SERVING = ("serve", "decide")
 FLAGS = ("strict",)  # options without a value
 NUMBERS = {"batch": (1, 999_999_999), "port": (0, 65_535), "count": (1, 1_000_000), "timeout": (0, 3_600)}
 MODES = ("600", "0600", "660", "0660", "666", "0666")
@@ -43,10 +43,11 @@ VALUES: dict[str, tuple[str, ...]] = {
     "console": (*world.CONSOLES, "C", "c1", "9X", "", "A" * 8, "A" * 9, "#1"),
     "level": (*names.LEVELS, "read", "HIGH", "", "READ "),
     "socket": ("socket", "./socket", "/no/such/socket", "", " ", "é", "x" * 200),
+    "base": ("https://gate.example", "x" * 200, "x" * 201, "", "a b", 'a"', "a\\b", "\u00e9", "~", "http://a/"),
     "socket-mode": (*MODES, "600 ", "00600", "0x180", "384", "777", "0", "", "660 ", "rw", "+600"),
 }
 GOOD = {"user": "ANNA", "class": "OPERCMDS", "resource": "MVS.CANCEL.JOB.PAY", "console": "C1", "level": "UPDATE"}
-GOOD |= {"socket": "socket", "socket-mode": "660"}
+GOOD |= {"socket": "socket", "socket-mode": "660", "base": "http://localhost"}
 DIGITS = (
     "0", "1", "7", "007", "65535", "65536", "999999999", "1000000000", "1000000", "1000001", "3600", "3601",
     "18446744073709551616", "00000000000000000000007", "+7", " 7", "7 ", "7.0", "0x7", "1e3", "", "٣", "9" * 400, "²",
@@ -89,7 +90,7 @@ def comes_to(words: list[Word]) -> tuple[int, str, str | None] | None:
         return None
     if not words or words[0] not in OPTIONS:
         return 2, "", None
-    command, given = words[0], pairs(words[1:], FLAGS if words[0] == "serve" else ())
+    command, given = words[0], pairs(words[1:], FLAGS if words[0] in SERVING else ())
     known = OPTIONS[command]
     if given is None:
         return None
@@ -128,8 +129,10 @@ def answer(command: str, values: dict[str, str]) -> tuple[int, str, str | None] 
         return 2, "", None
     if "console" in values and not names.is_console(values["console"]):
         return 2, "", None
-    if command == "serve" and not is_address(values):
+    if command in SERVING and not (is_address(values) and is_url(values.get("base", "x"))):
         return 2, "", None
+    if command == "decide":
+        return answer_without(values["policy"])
     return (3, "", "E91 Store") if values["db"] == "/" else None
 
 
@@ -148,6 +151,10 @@ def is_address(values: dict[str, str]) -> bool:
         return "socket" not in values and "socket-mode" not in values
     is_mode = "socket-mode" not in values or values["socket-mode"] in MODES
     return values.get("socket", "") != "" and is_mode and "strict" not in values
+
+
+def is_url(text: str) -> bool:
+    return 1 <= len(text) <= 200 and all("!" <= it <= "~" and it not in '"\\' for it in text)
 
 
 def answer_of_run(policy: str | None) -> tuple[int, str, str] | None:
@@ -170,7 +177,7 @@ def is_number(text: str, least: int, most: int) -> bool:
 
 
 def make(chance: Random) -> Words:
-    command = chance.choices(list(OPTIONS), (5, 2, 3, 1, 4))[0]
+    command = chance.choices(list(OPTIONS), (5, 2, 3, 1, 3, 2))[0]
     words: list[Word] = [command]
     for name, is_needed in OPTIONS[command].items():
         if not (is_needed or one_in(chance, 2)) or one_in(chance, 20):
@@ -178,15 +185,16 @@ def make(chance: Random) -> Words:
         if name in FLAGS:
             words.append(f"--{name}")
             continue
-        value = any_value(chance, name)
+        value = "/" if (command, name) == ("decide", "policy") else any_value(chance, name)
         words += [f"--{name}={value}"] if one_in(chance, 3) else [f"--{name}", value]
     if one_in(chance, 4):
         words = [command, *chance.sample(words[1:], len(words) - 1)]
     for _ in range(chance.choice((0, 0, 1, 1, 2))):
         words = once(chance, words)
-    is_safe = "--db=/" in words or ("--db", "/") in zip(words, words[1:])
+    of = "--policy" if words[:1] == ["decide"] else "--db"
+    is_safe = f"{of}=/" in words or (of, "/") in zip(words, words[1:])
     # (what would be served otherwise does not end)
-    return Words(words if is_safe or words[:1] != ["serve"] else [*words, "more", "more"])
+    return Words(words if is_safe or words[:1] not in ([it] for it in SERVING) else [*words, "more", "more"])
 
 
 def any_value(chance: Random, name: str) -> str:

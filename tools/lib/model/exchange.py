@@ -3,7 +3,7 @@ import json
 import re
 from typing import Any, Callable, Iterable, NamedTuple
 
-from . import counting, files, names, requests
+from . import counting, files, json_values, names, requests
 from .faults import Fault
 from .machine import State
 
@@ -58,14 +58,7 @@ def wants_read(holds: object) -> None:
 
 def read(sent: Sent, strict: int | None = None) -> requests.Request:
     """The request that was sent; else Unread, or the fault of a policy file. A strict service is at this port."""
-    # an invalid head is refused before all else
-    wants_read(
-        sent.size is None and sent.version in ("1.0", "1.1") and all(
-            character > " " and character != "\x7f" for character in sent.target
-        )
-    )
-    if strict is not None and not is_local(sent.fields, strict):
-        raise Unread(403)
+    wants_head(sent, strict)
     route, parts = routed(sent)
     body = body_of(sent)
     console = re.sub("%23|%24|%40", lambda escape: chr(int(escape[0][1:], 16)), parts[0])
@@ -85,6 +78,17 @@ def read(sent: Sent, strict: int | None = None) -> requests.Request:
     return requests.ListAccount(console, number(parts[1], 18, 0, 10 ** 18), number(parts[2], 4, 1, 1_000))
 
 
+def wants_head(sent: Sent, strict: int | None) -> None:
+    """Refuses an invalid head before all else, then what a strict service at this port does not take."""
+    wants_read(
+        sent.size is None and sent.version in ("1.0", "1.1") and all(
+            character > " " and character != "\x7f" for character in sent.target
+        )
+    )
+    if strict is not None and not is_local(sent.fields, strict):
+        raise Unread(403)
+
+
 def is_local(fields: Iterable[tuple[str, str]], port: int) -> bool:
     """Whether a head comes from no web page, by its fields, and is for a service at this port."""
     found = [(name.lower(), value.strip(" \t").lower()) for name, value in fields]
@@ -94,10 +98,10 @@ def is_local(fields: Iterable[tuple[str, str]], port: int) -> bool:
     return len(hosts) == 1 and hosts[0] in served and not any(name in ("origin", "sec-fetch-site") for name, _ in found)
 
 
-def routed(sent: Sent) -> tuple[str, tuple[str, ...]]:
+def routed(sent: Sent, routes: dict[str, tuple[str, str]] = ROUTES) -> tuple[str, tuple[str, ...]]:
     if "?" in sent.target or any(character > "~" for character in sent.target):
         raise Unread(404)
-    for route, (method, expression) in ROUTES.items():
+    for route, (method, expression) in routes.items():
         if found := re.fullmatch(expression, sent.target):
             if sent.method != method:
                 raise Unread(405, method)
@@ -130,20 +134,8 @@ def text_of(body: bytes) -> str:
 
 
 def read_json(body: bytes) -> dict[str, Any]:
-    """A JSON object, the last of equal keys counting; half a pair of surrogates is no text."""
-    def none(_: str) -> float:
-        raise ValueError
-
-    def checked(pairs: list[tuple[str, Any]]) -> dict[str, Any]:
-        json.dumps(pairs, ensure_ascii=False).encode()
-        return dict(pairs)
-
-    def finite(text: str) -> float:
-        return float(text) if abs(float(text)) != float("inf") else none(text)
-
     try:
-        found = json.loads(text_of(body), parse_constant=none, parse_float=finite, object_pairs_hook=checked)
-        json.dumps(found, ensure_ascii=False).encode()
+        found = json_values.read(body)
     except ValueError:  # (those of JSON and of UTF-8 are among these)
         raise Unread(400) from None
     wants_read(isinstance(found, dict))
@@ -188,11 +180,12 @@ def read_operation(console: str, found: dict[str, Any]) -> requests.Admin:
     return requests.Admin(console, op, found)
 
 
-def response(status: int, body: dict[str, object], allow: str | None = None) -> bytes:
-    text = json.dumps(body, separators=(",", ":"), ensure_ascii=False).encode()
+def response(status: int, body: object, allow: str | None = None, more: Iterable[str] = ()) -> bytes:
+    """The bytes of a response, with its keys in order, and with further fields before the last."""
+    text = json.dumps(body, separators=(",", ":"), ensure_ascii=False, sort_keys=True).encode()
     fields = [
         "Content-Type: application/json", f"Content-Length: {len(text)}", *([f"Allow: {allow}"] if allow else []),
-        "Connection: close",
+        *more, "Connection: close",
     ]
     return "\r\n".join([f"HTTP/1.1 {status} {PHRASES[status]}", *fields, "", ""]).encode() + text
 

@@ -1,4 +1,4 @@
-"""nginx with examples/nginx.conf, on a port of its own, with a certificate and logins that are made for it."""
+"""nginx with a configuration of examples/, on a port of its own, with a certificate and logins that are made for it."""
 import base64
 import contextlib
 import os
@@ -14,6 +14,9 @@ from lib.clients import HOST, SECONDS, free_port, taken
 from lib.places import TOP
 
 NAME = "gate.example"
+# the configurations, each with the socket of the service behind it
+GATE, PAGE = "nginx.conf", "nginx-decide.conf"
+SOCKETS = {GATE: "/run/opcmds/http.sock", PAGE: "/run/opcmds-decide/decide.sock"}
 LOGINS = {
     "anna": "of anna", "carl": "of carl", "secadm": "of secadm", "guest": "has no console", "Anna": "of another",
     "ANNA": "of a third",
@@ -53,19 +56,20 @@ def program() -> str | None:
     return shutil.which("nginx", path=f"{os.environ.get('PATH', os.defpath)}:/usr/sbin")
 
 
-def site(folder: str, port: int, upstream: str) -> str:
-    """examples/nginx.conf with the paths, the port and the upstream of a test, and nothing else changed."""
-    with open(f"{TOP}/examples/nginx.conf", encoding="utf-8") as file:
+def site(folder: str, port: int, upstream: str, example: str = GATE) -> str:
+    """An example with the paths, the port and the upstream of a test, and nothing else changed."""
+    with open(f"{TOP}/examples/{example}", encoding="utf-8") as file:
         text = file.read()
     for old, new in (
         ("listen 443 ssl;", f"listen {HOST}:{port} ssl;"),
         ("/etc/opcmds/tls/certificate.pem", f"{folder}/certificate.pem"),
         ("/etc/opcmds/tls/key.pem", f"{folder}/key.pem"),
         ("/etc/opcmds/logins", f"{folder}/logins"),
-        ("server unix:/run/opcmds/http.sock;", f"server {upstream};"),
+        (f"server unix:{SOCKETS[example]};", f"server {upstream};"),
+        *([("root /var/www/page;", f"root {folder}/page;")] if example == PAGE else []),
     ):
         if text.count(old) != 1:
-            raise BadSite(f"examples/nginx.conf has {old!r} {text.count(old)} times, and not once")
+            raise BadSite(f"examples/{example} has {old!r} {text.count(old)} times, and not once")
         text = text.replace(old, new)
     return text
 
@@ -132,12 +136,12 @@ def is_listening(port: int) -> bool:
 
 
 @contextlib.contextmanager
-def front(folder: str, upstream: str) -> Iterator[Front]:
+def front(folder: str, upstream: str, example: str = GATE) -> Iterator[Front]:
     """nginx before this upstream, as a `server` of nginx names it, until it is no longer needed."""
     with free_port() as port:
         pass
     with open(f"{folder}/site.conf", "w", encoding="utf-8") as file:
-        file.write(site(folder, port, upstream))
+        file.write(site(folder, port, upstream, example))
     with open(f"{folder}/nginx.conf", "w", encoding="utf-8") as file:
         file.write(MAIN.format(folder=folder))
     words = [program(), "-c", f"{folder}/nginx.conf", "-p", folder, "-e", f"{folder}/error.log"]

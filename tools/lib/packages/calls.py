@@ -1,16 +1,20 @@
-"""Which calls of the system the unit lets the program make, and which the program makes as a service."""
+"""Which calls of the system a unit lets the program make, and which the program makes as a service."""
+import json
 import os
 import re
 import signal
 import subprocess
 import time
+from typing import Sequence
 
+from lib.decide.asking import entering, user
 from lib.places import POLICY, built
 
 FILTER = re.compile(r"(?m)^SystemCallFilter=(~?)(.*)$")
 CALL = re.compile(r"(?m)^\d+ +(\w+)\(")
 SECONDS = 20  # of patience
 REQUESTS = ('{"text":"D C"}', '{"text":"C PAYROLL"}')
+QUESTIONS = ("{}", json.dumps(entering(user("ANNA"), "C PAYROLL")))
 
 
 def calls_of(name: str) -> set[str]:
@@ -38,13 +42,23 @@ def made_by_service(room: str) -> set[str]:
     file, path = f"{room}/gate.db", f"{room}/http.sock"
     words = [built(), "run", "--db", file, "--policy", POLICY]
     subprocess.run(words, input=b"", stdout=subprocess.DEVNULL, check=True)
-    traced = ["strace", "-f", "-qq", "-o", f"{room}/calls", f"{room}/bin/opcmds", "serve", "--db", file]
-    traced += ["--socket", path, "--socket-mode", "660", "--count", str(len(REQUESTS))]
+    return made_by(room, path, ["serve", "--db", file], "consoles/C1/command", REQUESTS)
+
+
+def made_by_decide(room: str) -> set[str]:
+    """The same over a policy file."""
+    return made_by(room, f"{room}/decide.sock", ["decide", "--policy", POLICY], "access/v1/evaluation", QUESTIONS)
+
+
+def made_by(room: str, path: str, words: list[str], route: str, bodies: Sequence[str]) -> set[str]:
+    """The calls of these words at this socket, from their start, while these bodies are answered."""
+    traced = ["strace", "-f", "-qq", "-o", f"{room}/calls", f"{room}/bin/opcmds", *words, "--log"]
+    traced += ["--socket", path, "--socket-mode", "660", "--count", str(len(bodies))]
     # (a group of its own, so that both end with it)
-    how = {"stdin": subprocess.DEVNULL, "stdout": subprocess.DEVNULL, "start_new_session": True}
-    with subprocess.Popen(traced, **how) as service:
+    silent = {name: subprocess.DEVNULL for name in ("stdin", "stdout", "stderr")}
+    with subprocess.Popen(traced, **silent, start_new_session=True) as service:
         try:
-            ask(path)
+            ask(path, route, bodies)
             service.wait(SECONDS)
         except subprocess.TimeoutExpired:
             os.killpg(service.pid, signal.SIGKILL)
@@ -52,11 +66,11 @@ def made_by_service(room: str) -> set[str]:
         return set(CALL.findall(lines.read()))
 
 
-def ask(path: str) -> None:
+def ask(path: str, route: str, bodies: Sequence[str]) -> None:
     """Sends the requests, once the service listens."""
     end = time.monotonic() + SECONDS
     while not os.path.exists(path) and time.monotonic() < end:
         time.sleep(0.05)
-    for body in REQUESTS:
+    for body in bodies:
         curl = ["curl", "-s", "--retry", "5", "--retry-all-errors", "--max-time", str(SECONDS), "--unix-socket", path]
-        subprocess.run([*curl, "-d", body, "http://gate/consoles/C1/command"], stdout=subprocess.DEVNULL)
+        subprocess.run([*curl, "-d", body, f"http://gate/{route}"], stdout=subprocess.DEVNULL)

@@ -17,6 +17,7 @@ WITH_PROGRAM = {
     "serve": ["tools/serve"],
     "model": ["tools/model"],
     "stops": ["tools/stops", "--most", "2"],
+    "decide": ["tools/decide"],
     "fuzz": ["tools/fuzz", "--count", "2000"],
     "databases": ["tools/databases"],
     "cases": ["tools/cases"],

@@ -87,6 +87,8 @@ class Words(unittest.TestCase):
         self.assertEqual(words.comes_to(["import", "--db", "/", "--batch", "0"]), (2, "", None))
         self.assertEqual(words.comes_to(["import", "--db", "/", "--batch", "007"]), (3, "", "E91 Store"))
         self.assertEqual(words.comes_to(["serve", "--db", "/", "--port", "65536"]), (2, "", None))
+        self.assertEqual(words.comes_to(["decide", "--policy", "/", "--port", "0"]), (3, "", "E91 Store"))
+        self.assertEqual(words.comes_to(["decide", "--policy", "/", "--port", "0", "--base", "a b"]), (2, "", None))
         self.assertEqual(words.comes_to([b"\xff"]), (2, "", None))
         self.assertEqual(words.comes_to([]), (2, "", None))
 

@@ -1,0 +1,1 @@
+"""What asks `opcmds decide`, and what is wanted of it."""

@@ -1,0 +1,1 @@
+"""Tests of what is wanted of `decide`: tools/selftest runs them."""

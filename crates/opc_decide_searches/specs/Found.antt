@@ -1,5 +1,6 @@
 -- Who or what a search finds: those with whom its question is permitted.
-use Rattle.std.specs.Prelude.{List, [], ◌∷◌, Option, Some, None, Result, Ok, Err, filter, map}
+use Rattle.std.specs.Prelude.{Bool, if◌then◌else◌, is_ok, List, [], ◌∷◌, Option, Some, None, Result, Ok, Err, filter, map}
+use Rattle.std.specs.List.{list_any}
 use Rattle.serde_json.specs.Data.{Data}
 use Rattle.opc_board.specs.declared.rows.ConsoleRow.{ConsoleRow}
 use Rattle.opc_state.specs.State.{State}
@@ -19,7 +20,7 @@ use Rattle.opc_decide_searches.specs.Candidates.{asked}
 abbrev pub permitted : NamedState → (body : Data) → List AccessCandidate → List AccessCandidate
 permitted p body candidates = filter (λ c. element_permits p (asked body c)) candidates
 
--- the fault of the question, which all candidates share
+-- what is wrong with the question, if it reads about none of the candidates: that about the first
 abbrev pub fault_of : Result AccessQuestion RequestFault → Option RequestFault
 fault_of (Ok question) = None
 fault_of (Err why) = Some why
@@ -27,6 +28,12 @@ fault_of (Err why) = Some why
 abbrev pub first_fault : (body : Data) → List AccessCandidate → Option RequestFault
 first_fault body [] = None
 first_fault body (c ∷ more) = fault_of (asked body c)
+
+abbrev pub reads : (body : Data) → AccessCandidate → Bool
+reads body c = is_ok (asked body c)
+
+abbrev pub shared_fault : (body : Data) → List AccessCandidate → Option RequestFault
+shared_fault body candidates = if list_any (reads body) candidates then None else first_fault body candidates
 
 -- the users of a policy in order; its consoles in order, where nobody is on, or as resources; actions
 abbrev pub users_as_candidates : List UserWithGroups → List AccessCandidate

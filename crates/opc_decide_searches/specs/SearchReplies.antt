@@ -15,8 +15,8 @@ use Rattle.opc_decide_searches.specs.declared.candidate.AccessCandidate.{AccessC
 use Rattle.opc_decide_searches.specs.Found.{
   action_candidates,
   console_candidates,
-  first_fault,
   permitted,
+  shared_fault,
   subject_candidates,
 }
 use Rattle.opc_decide_searches.specs.Pages.{results_value}
@@ -31,7 +31,7 @@ abbrev pub found_value : NamedState → (body : Data) → List AccessCandidate �
 found_value p body candidates = do
   limit ← limit_at body
   token ← token_at body
-  _ ← being_asked (first_fault body candidates)
+  _ ← being_asked (shared_fault body candidates)
   Ok (results_value limit token (permitted p body candidates))
 
 abbrev pub reply_of : Result Data RequestFault → DecideReply

@@ -1,5 +1,6 @@
 //! Who or what a search finds.
 ghost use Rattle.std.specs.Prelude.{◌≡◌, IfOk};
+ghost use Rattle.std.specs.List.{list_any};
 ghost use Rattle.serde_json.specs.View.{view};
 ghost use Rattle.opc_decide_answers.specs.Evaluated.{element_permits};
 ghost use Rattle.opc_decide_searches.specs.Candidates.{asked};
@@ -9,6 +10,8 @@ ghost use Rattle.opc_decide_searches.specs.Found.{
   first_fault,
   nobody_at,
   permitted,
+  reads,
+  shared_fault,
   subject_candidates,
   user_candidates,
 };
@@ -60,8 +63,8 @@ pub(crate) fn permitted(
     Ok(found)
 }
 
-/// The fault of the question, which all candidates share.
-pub(crate) fn first_fault(body: &Value, candidates: &[AccessCandidate]) -> Option<RequestFault>
+/// What is wrong with the question about the first candidate.
+fn first_fault(body: &Value, candidates: &[AccessCandidate]) -> Option<RequestFault>
     ensures { result ≡ first_fault (view body.now) candidates.now }
 {
     let [first, ..] = candidates else {
@@ -71,6 +74,29 @@ pub(crate) fn first_fault(body: &Value, candidates: &[AccessCandidate]) -> Optio
         Ok(_) => None,
         Err(why) => Some(why),
     }
+}
+
+/// Whether the question about a candidate reads.
+fn reads(body: &Value, candidate: &AccessCandidate) -> bool
+    ensures { result ≡ reads (view body.now) candidate.now }
+{
+    candidate.asked(body).is_ok()
+}
+
+fn reads_some(body: &Value, candidates: &[AccessCandidate]) -> bool
+    ensures { result ≡ list_any (reads (view body.now)) candidates.now }
+{
+    candidates.iter().any(|candidate| reads(body, candidate))
+}
+
+/// What is wrong with the question, if it reads about none of the candidates.
+pub(crate) fn shared_fault(body: &Value, candidates: &[AccessCandidate]) -> Option<RequestFault>
+    ensures { result ≡ shared_fault (view body.now) candidates.now }
+{
+    if reads_some(body, candidates) {
+        return None;
+    }
+    first_fault(body, candidates)
 }
 
 fn user_candidates(

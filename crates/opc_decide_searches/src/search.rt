@@ -14,7 +14,7 @@ ghost use Rattle.opc_decide_searches.specs.SearchReplies.{
 use crate::asking::{actions_at, class_at, limit_at, token_at};
 use crate::candidate::AccessCandidate;
 use crate::finding::{
-    action_candidates, console_candidates, first_fault, permitted, subject_candidates,
+    action_candidates, console_candidates, permitted, shared_fault, subject_candidates,
 };
 use crate::page::results_value;
 use opc_decide_answers::policy::DecidingPolicy;
@@ -43,7 +43,7 @@ fn found_reply(
         Ok(token) => token,
         Err(why) => return bad(alloc, &why),
     };
-    if let Some(why) = first_fault(body, candidates) {
+    if let Some(why) = shared_fault(body, candidates) {
         return bad(alloc, &why);
     }
     let found = permitted(alloc, policy, body, candidates)?;

@@ -256,6 +256,14 @@ def page_of(body: dict) -> tuple[int, str]:
     return limit, text_if(page, "page.token") or ""
 
 
+def fault_of(candidate: Candidate) -> Bad | None:
+    try:
+        candidate.question()
+    except Bad as fault:
+        return fault
+    return None
+
+
 def is_found(held: Present, candidate: Candidate) -> bool:
     try:
         return decided(held, candidate.question())[0]
@@ -264,12 +272,13 @@ def is_found(held: Present, candidate: Candidate) -> bool:
 
 
 def results(held: Present, body: dict, candidates: Iterable[Candidate]) -> object:
-    """The page of those with whom the question is permitted. What is wrong with the question of the first is wrong with
-    the body."""
+    """The page of those with whom the question is permitted. If it reads about none, what is wrong about the first is
+    wrong with the body."""
     limit, token = page_of(body)
     tried = list(candidates)
-    for first in tried[:1]:
-        first.question()
+    faults = [fault_of(candidate) for candidate in tried]
+    if faults and all(faults):
+        raise faults[0]
     found = [candidate for candidate in tried if is_found(held, candidate)]
     rest = [candidate for candidate in found if candidate.name.encode() > token.encode()]
     shown = rest[:limit]

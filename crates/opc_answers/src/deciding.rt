@@ -1,36 +1,17 @@
 //! The profile that decides.
-ghost use Rattle.std.specs.Prelude.{◌≡◌, IfOk, find};
+ghost use Rattle.std.specs.Prelude.{◌≡◌, IfOk};
 ghost use Rattle.std.specs.Option.{option_copied};
-ghost use Rattle.opc_names.specs.Patterns.{covers_text};
-ghost use Rattle.opc_policy_members.specs.Profiles.{AreMostSpecificFirst, of_class};
+ghost use Rattle.opc_policy_members.specs.Profiles.{of_class};
 ghost use Rattle.opc_policy.specs.Deciding.{deciding};
-ghost use Rattle.opc_policy.specs.Explained.{is_covering};
 ghost use Rattle.opc_answers.specs.Deciding.{decider};
 
 use opc_names::class::Class;
 use opc_names::name::Resource;
+use opc_policy::covering::first_covering;
 use opc_policy_members::policy::Policy;
 use opc_policy_members::profile::Profile;
 use opc_policy_members::profiles::Profiles;
 use std::alloc::AllocError;
-
-fn covers(profile: &Profile, resource: &Resource) -> bool
-    ensures { result ≡ covers_text profile.now.pattern resource.now }
-{
-    profile.pattern.covers(resource)
-}
-
-/// The first profile of a class that covers a resource.
-fn first_covering<'a>(
-    profiles: &'a Profiles,
-    class: Class,
-    resource: &Resource,
-) -> Option<&'a Profile>
-    ensures first { option_copied result ≡ find (is_covering class resource.now) profiles.now }
-    ensures in_order { AreMostSpecificFirst profiles.now }
-{
-    profiles.iter().find(|profile| profile.is_of(class) && covers(profile, resource))
-}
 
 /// The most specific one: the first, since profiles are in the order of their patterns.
 fn most_specific<'a>(

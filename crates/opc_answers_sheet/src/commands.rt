@@ -273,8 +273,8 @@ fn rows_of(
     kind_rows(alloc, room, callers, decided, found, &KINDS)
 }
 
-/// The rows of the profile at this place of all, or at their end of what no profile decides. It is not looked for by
-/// what it decides, which would take as long as there are profiles.
+/// The rows of the profile at this place, or, behind the last one, of what no profile decides. The profile is looked up
+/// by its pattern: a search for who decides would pass all profiles before it.
 pub fn rows_at(
     alloc: Global,
     room: &Room,

@@ -27,16 +27,16 @@ all_head P x xs h = h 0 x (omega arith)
 all_tail : {X : Type 0} (P : X → Type 0) (x : X) (xs : List X) → All P (x ∷ xs) → All P xs
 all_tail P x xs h k d less = h (suc k) d (omega arith)
 
-pairs_head : {X : Type 0} (R : X → X → Type 0) (x : X) (xs : List X) → AllPairs R (x ∷ xs) → All (R x) xs
+pub pairs_head : {X : Type 0} (R : X → X → Type 0) (x : X) (xs : List X) → AllPairs R (x ∷ xs) → All (R x) xs
 pairs_head R x xs h k d less = h 0 (suc k) d (omega arith) (omega arith)
 
-pairs_tail : {X : Type 0} (R : X → X → Type 0) (x : X) (xs : List X) → AllPairs R (x ∷ xs) → AllPairs R xs
+pub pairs_tail : {X : Type 0} (R : X → X → Type 0) (x : X) (xs : List X) → AllPairs R (x ∷ xs) → AllPairs R xs
 pairs_tail R x xs h i j d first second = h (suc i) (suc j) d (omega arith) (omega arith)
 
-abbrev IsEarlier : Profile → Profile → Type 0
+abbrev pub IsEarlier : Profile → Profile → Type 0
 IsEarlier p q = p.class ≡ q.class → is_before p q ≡ true
 
-one_class : (c d : Class) → same_class c d ≡ true → c ≡ d
+pub one_class : (c d : Class) → same_class c d ≡ true → c ≡ d
 one_class Console Console e = refl
 one_class Console Opercmds e = (cc)
 one_class Opercmds Console e = (cc)
@@ -48,10 +48,10 @@ not_before o Equal flipped e = (cc)
 not_before o Greater flipped e = (cc)
 
 -- of two profiles one at most is before the other
-before_once : (p q : Profile) → is_before p q ≡ true → is_before q p ≡ false
+pub before_once : (p q : Profile) → is_before p q ≡ true → is_before q p ≡ false
 before_once p q e = not_before _ _ (nat_list_cmp_total.antisymm (sort_key q.pattern) (sort_key p.pattern)) e
 
-both_true : (a b : Bool) → (a && b) ≡ true → (a ≡ true) × (b ≡ true)
+pub both_true : (a b : Bool) → (a && b) ≡ true → (a ≡ true) × (b ≡ true)
 both_true true b e = (refl, e)
 both_true false b e = (cc)
 

@@ -3,5 +3,7 @@ pub mod Counts
 pub mod Decided
 pub mod FirstCovering
 pub mod InOrder
+pub mod Listed
 pub mod MostSpecific
 pub mod OneMore
+pub mod Skipped

@@ -1,6 +1,7 @@
 -- Why a user may or may not have a level of access to a resource.
 use Rattle.std.specs.Prelude.{ℕ, Bool, ◌&&◌, List, [], ◌∷◌, ◌++◌, Option, Some, None, Result, Ok, Err, map, codes}
 use Rattle.std.specs.List.{flat_map}
+use Rattle.std.specs.declared.ops.Bound.{Bound}
 use Rattle.opc_names.specs.Authority.{same_class}
 use Rattle.opc_names.specs.Patterns.{covers_text}
 use Rattle.opc_names.specs.declared.class.Class.{Class}
@@ -11,7 +12,7 @@ use Rattle.opc_terms.specs.declared.fault.Fault.TheVariants.{Missing}
 use Rattle.opc_policy_members.specs.declared.policy.Policy.{Policy}
 use Rattle.opc_policy_members.specs.declared.profile.Profile.{Profile}
 use Rattle.opc_policy_members.specs.declared.user.User.{User}
-use Rattle.opc_policy_members.specs.Profiles.{of_class}
+use Rattle.opc_policy_members.specs.Profiles.{is_of_from, of_class}
 use Rattle.opc_policy.specs.Deciding.{covering, deciding}
 use Rattle.opc_policy_members.specs.Members.{user_of, groups_of}
 use Rattle.opc_terms.specs.Rules.{rule_text}
@@ -22,6 +23,10 @@ use Rattle.opc_policy.specs.Verdicts.{verdict_text}
 -- whether a profile of a class covers a resource
 abbrev pub is_covering : Class → List ℕ → Profile → Bool
 is_covering class resource profile = same_class profile.class class && covers_text profile.pattern resource
+
+-- the same, and its sort key is at a start or after it
+abbrev pub is_covering_from : Class → List ℕ → (start : Bound (List ℕ)) → Profile → Bool
+is_covering_from class resource start profile = is_of_from class start profile && covers_text profile.pattern resource
 
 -- the patterns of the profiles of a class that cover a resource
 abbrev pub covering_patterns : Class → List ℕ → List Profile → List (List ℕ)

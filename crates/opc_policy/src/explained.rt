@@ -8,6 +8,7 @@ ghost use Rattle.opc_policy_members.specs.Profiles.{of_class, AreMostSpecificFir
 ghost use Rattle.opc_policy.specs.Deciding.{deciding};
 ghost use Rattle.opc_policy.specs.Explained.{covering_patterns, is_covering, explanation};
 
+use crate::covering::{covering_from, first_covering};
 use crate::ruling::profile_ruling;
 use crate::verdict::Verdict;
 use opc_names::class::Class;
@@ -21,6 +22,7 @@ use opc_terms::rule::Rule;
 use std::alloc::{AllocError, Global};
 use std::fmt;
 use std::marker::Model;
+use std::ops::Bound;
 
 /// Patterns, each before all later ones.
 #[derive(Drop)]
@@ -99,17 +101,7 @@ fn decided<'a>(profiles: &'a Profiles, class: Class, resource: &Resource) -> Opt
     first_covering(profiles, class, resource)
 }
 
-fn first_covering<'a>(
-    profiles: &'a Profiles,
-    class: Class,
-    resource: &Resource,
-) -> Option<&'a Profile>
-    ensures first { option_copied result ≡ find (is_covering class resource.now) profiles.now }
-    ensures in_order { AreMostSpecificFirst profiles.now }
-{
-    profiles.iter().find(|profile| profile.is_of(class) && covers(profile, resource))
-}
-
+/// The patterns of the profiles of a class that cover a resource, in their order.
 fn covering_patterns(
     alloc: Global,
     profiles: &Profiles,
@@ -120,19 +112,13 @@ fn covering_patterns(
     ensures in_order { AllPairs (λ p q. Before (tokens p) (tokens q))
         (covering_patterns class resource.now profiles.now) }
 {
-    let list = profiles
-        .iter()
-        .filter(|profile| profile.is_of(class))
-        .filter(|profile| covers(profile, resource))
-        .map(|profile| profile.pattern)
-        .collect(alloc)?;
+    let mut list = Vec::new(alloc);
+    let mut start = Bound::Unbounded;
+    while let Some(profile) = covering_from(profiles, class, resource, start) {
+        list.push(profile.pattern)?;
+        start = Bound::Excluded(profile.pattern.sort_key());
+    }
     Ok(Patterns { list })
-}
-
-fn covers(profile: &Profile, resource: &Resource) -> bool
-    ensures { result ≡ covers_text profile.now.pattern resource.now }
-{
-    profile.pattern.covers(resource)
 }
 
 impl fmt::Display for Explained {

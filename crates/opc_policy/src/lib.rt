@@ -3,6 +3,7 @@
 #![tactic(auto)]
 
 pub mod cases;
+pub mod covering;
 pub mod explained;
 pub mod laws;
 pub mod plain;

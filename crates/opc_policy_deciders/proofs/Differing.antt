@@ -44,8 +44,8 @@ use Rattle.opc_names.specs.Names.{IsPattern}
 use Rattle.opc_names.specs.Order.{head, sort_key}
 use Rattle.opc_names.specs.Patterns.{CoversText, tokens}
 use Rattle.opc_names.proofs.Heads.{heads_are_prefixes}
-use Rattle.opc_policy_shared.proofs.Followed.{covered_names_follow}
-use Rattle.opc_policy_shared.specs.Follows.{FollowsNone, follows, stands_for}
+use Rattle.opc_names_keys.proofs.Followed.{covered_names_follow}
+use Rattle.opc_names_keys.specs.Follows.{FollowsNone, follows, stands_for}
 use Rattle.opc_policy_witness.specs.Ends.{NoneInCommon}
 use Rattle.opc_policy_deciders.specs.Near.{IsEarlier}
 use Rattle.opc_policy_deciders.specs.Places.{DiffersBetween}

@@ -39,7 +39,7 @@ use Rattle.opc_names.specs.Order.{head, sort_key}
 use Rattle.opc_names.specs.Patterns.{covers_text, tokens}
 use Rattle.opc_names.proofs.Computed.{text_computes}
 use Rattle.opc_names.proofs.Heads.{heads_are_prefixes}
-use Rattle.opc_policy_shared.specs.Follows.{follows}
+use Rattle.opc_names_keys.specs.Follows.{follows}
 use Rattle.opc_policy_members.specs.declared.policy.Policy.{Policy}
 use Rattle.opc_policy_deciders.specs.Decided.{ArePatternsOf}
 use Rattle.opc_policy_deciders.specs.Near.{IsEarlier}

@@ -8,7 +8,6 @@ pub mod Differing
 pub mod Explained
 pub mod Finding
 pub mod Gathering
-pub mod Left
 pub mod Listing
 mod Parting
 pub mod Refused

@@ -18,7 +18,7 @@ use Rattle.std.specs.Prelude.{
 }
 use Rattle.std.specs.List.{slice_get}
 use Rattle.opc_names.specs.Order.{sort_key}
-use Rattle.opc_policy_shared.specs.Follows.{follows}
+use Rattle.opc_names_keys.specs.Follows.{follows}
 use Rattle.opc_policy_members.specs.declared.policy.Policy.{Policy}
 use Rattle.opc_policy_deciders.specs.Decided.{ArePatternsOf}
 use Rattle.opc_policy_deciders.specs.Pairs.{NoneDecidedByBoth}

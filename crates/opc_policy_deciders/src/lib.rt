@@ -7,6 +7,5 @@ pub mod form;
 pub mod kind;
 pub mod laws;
 mod near;
-mod obstacle;
 pub mod pairs;
 pub mod places;

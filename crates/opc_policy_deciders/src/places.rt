@@ -37,8 +37,8 @@ ghost use Rattle.opc_policy_deciders.specs.Places.{
 
 use crate::candidates::{pattern_at, stands_at};
 use crate::near::is_below;
-use crate::obstacle::key_past;
 use opc_names::name::Pattern;
+use opc_names_keys::past::key_past;
 use std::alloc::{AllocError, Global};
 
 /// Adds the place of a pattern that is on one side alone.
@@ -98,7 +98,7 @@ pub(crate) fn place_past(text: &[u8], patterns: &[Pattern], place: usize) -> usi
     ensures within { (place ≤ result) × (result ≤ length patterns.now) }
     ensures past { DiffersBetween text.now patterns.now place result }
 {
-    match key_past(&patterns[place], text) {
+    match key_past(&patterns[place].sort_key(), text) {
         Some(key) => place_from(patterns, place + 1, key.as_slice()),
         None => place,
     }

@@ -1,4 +1,5 @@
 pub mod Classes
+pub mod FirstFrom
 pub mod Highest
 pub mod KeyOrder
 pub mod ListedGroups

@@ -1,5 +1,6 @@
 -- The profiles of a policy, in their order.
 use Rattle.std.specs.Prelude.{◌≡◌, ◌≢◌, ℕ, Bool, true, ◌&&◌, List, Option, find, filter, All}
+use Rattle.std.specs.BTreeMap.Range.{is_from_start}
 use Rattle.std.specs.BTreeSet.{replace_key}
 use Rattle.std.specs.Cmp.Lexicographic.{slice_cmp}
 use Rattle.std.specs.List.{AllPairs}
@@ -7,6 +8,7 @@ use Rattle.std.specs.Option.{option_map_or}
 use Rattle.std.specs.Ordering.{nat_cmp, is_lt, ordering_then}
 use Rattle.std.specs.Str.{bytes_eq}
 use Rattle.std.specs.declared.cmp.Ordering.{Ordering}
+use Rattle.std.specs.declared.ops.Bound.{Bound}
 use Rattle.std.specs.declared.cmp.Ordering.TheVariants.{Less, Equal, Greater}
 use Rattle.opc_names.specs.Authority.{same_class}
 use Rattle.opc_names.specs.Names.{IsPattern}
@@ -74,3 +76,7 @@ is_before p q = is_lt (slice_cmp nat_cmp (sort_key p.pattern) (sort_key q.patter
 -- of two profiles of one class the earlier in a list comes before
 abbrev pub AreMostSpecificFirst : List Profile → Type 0
 AreMostSpecificFirst profiles = AllPairs (λ (p q : Profile). p.class ≡ q.class → is_before p q ≡ true) profiles
+
+-- whether a profile is of a class and its sort key is at a start or after it
+abbrev pub is_of_from : Class → (start : Bound (List ℕ)) → Profile → Bool
+is_of_from class start p = same_class p.class class && is_from_start (slice_cmp nat_cmp) start (sort_key p.pattern)

@@ -1,6 +1,8 @@
 -- How a policy is kept in memory.
-use Rattle.std.specs.Prelude.{◌≡◌, ℕ, List}
+use Rattle.std.specs.Prelude.{◌≡◌, ℕ, List, []}
 use Rattle.std.specs.List.{AllByRecursion}
+use Rattle.std.specs.declared.ops.Bound.{Bound}
+use Rattle.std.specs.declared.ops.Bound.TheVariants.{Included, Excluded, Unbounded}
 use Rattle.opc_names.specs.Names.{IsPattern}
 use Rattle.opc_names.specs.Order.{sort_key}
 use Rattle.opc_names.specs.declared.class.Class.{Class}
@@ -18,3 +20,9 @@ IsAtItsKey e = (e.0.0 ≡ e.1.class) × (e.0.1 ≡ sort_key e.1.pattern) × IsPa
 -- each profile is at its key
 abbrev pub AreByKey : List ((Class × List ℕ) × Profile) → Type 0
 AreByKey entries = AllByRecursion IsAtItsKey entries
+
+-- where the keys of a class start that are at a sort key or after it
+abbrev pub key_bound : Class → Bound (List ℕ) → Bound (Class × List ℕ)
+key_bound class (Included key) = Included (class, key)
+key_bound class (Excluded key) = Excluded (class, key)
+key_bound class Unbounded = Included (class, [])

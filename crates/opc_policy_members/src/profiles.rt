@@ -1,5 +1,5 @@
 //! The profiles of a policy.
-ghost use Rattle.std.specs.Prelude.{◌≡◌, ◌<◌, ◌^◌, [], IfOk, OnOk, OnErr, is_some, length, true, Some, None};
+ghost use Rattle.std.specs.Prelude.{◌≡◌, ◌<◌, ◌^◌, [], IfOk, OnOk, OnErr, find, is_some, length, true, Some, None};
 ghost use Rattle.std.specs.Option.{option_copied};
 ghost use Rattle.opc_names.specs.Order.{sort_key};
 ghost use Rattle.opc_policy_members.specs.Profiles.{
@@ -9,7 +9,9 @@ ghost use Rattle.opc_policy_members.specs.Profiles.{
   with_profile,
   with_definition,
   with_permission,
+  is_of_from,
 };
+ghost use Rattle.opc_policy_members.specs.Stored.{key_bound};
 
 use crate::entry::Entry;
 use crate::profile::Profile;
@@ -20,6 +22,18 @@ use std::alloc::{AllocError, Global};
 use std::collections::BTreeMap;
 use std::collections::btree_map::Values;
 use std::marker::Model;
+use std::ops::Bound;
+
+/// Where the keys of a class start that are at a sort key or after it.
+fn key_bound(class: Class, start: Bound<SortKey>) -> Bound<(Class, SortKey)>
+    ensures { result ≡ key_bound class start }
+{
+    match start {
+        Bound::Included(key) => Bound::Included((class, key)),
+        Bound::Excluded(key) => Bound::Excluded((class, key)),
+        Bound::Unbounded => Bound::Included((class, SortKey::copied(&[]))),
+    }
+}
 
 /// The profiles of a policy, by class and then by pattern, in the order of the patterns.
 #[derive(Drop)]
@@ -65,6 +79,20 @@ impl Profiles {
         ensures { option_copied result ≡ profile_of self.now class pattern.now }
     {
         self.by_key.get(&(class, pattern.sort_key()))
+    }
+
+    /// The first profile of a class whose sort key is at a start or after it.
+    pub fn first_from(&self, class: Class, start: Bound<SortKey>) -> Option<&Profile>
+        ensures first { option_copied result ≡ find (is_of_from class start) self.now }
+        ensures profiles { AreProfiles self.now }
+        ensures in_order { AreMostSpecificFirst self.now }
+    {
+        let keys = (key_bound(class, start), Bound::Unbounded);
+        match self.by_key.range(keys).next() {
+            Some((_, profile)) if profile.is_of(class) => Some(profile),
+            // None is left, or one of the other class, and no later one is of this class.
+            _ => None,
+        }
     }
 
     /// Puts a profile in the place of the one of its class and pattern, which it returns.

@@ -47,8 +47,8 @@ use Rattle.opc_policy_members.specs.declared.profile.Profile.{Profile}
 use Rattle.opc_policy.specs.Deciding.{covering, deciding, first_of, first_with}
 use Rattle.opc_policy.proofs.FirstCovering.{uncovered_text}
 use Rattle.opc_policy.proofs.MostSpecific.{ordered, of_filter, FirstIs, first_is}
-use Rattle.opc_policy_shared.proofs.Followed.{covered_names_follow}
-use Rattle.opc_policy_shared.specs.Follows.{FollowsNone, follows}
+use Rattle.opc_names_keys.proofs.Followed.{covered_names_follow}
+use Rattle.opc_names_keys.specs.Follows.{FollowsNone, follows}
 
 abbrev IsUncovered : List ℕ → Profile → Type 0
 IsUncovered name p = covers_text p.pattern name ≡ false

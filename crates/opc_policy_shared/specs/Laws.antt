@@ -1,13 +1,9 @@
 -- The laws of the shared search.
-use Rattle.std.specs.Prelude.{◌≡◌, ℕ, true, List, [], ◌∷◌, ◌++◌, Contains}
-use Rattle.opc_names.specs.Names.{IsPattern}
-use Rattle.opc_names.specs.Order.{sort_key}
-use Rattle.opc_names.specs.Patterns.{CoversText}
+use Rattle.std.specs.Prelude.{◌≡◌, ℕ, List, ◌++◌, Contains}
 use Rattle.opc_names.specs.declared.class.Class.{Class}
 use Rattle.opc_policy_members.specs.Profiles.{AreProfiles}
 use Rattle.opc_policy_members.specs.declared.profile.Profile.{Profile}
 use Rattle.opc_policy.specs.Deciding.{deciding}
-use Rattle.opc_policy_shared.specs.Follows.{follows}
 use Rattle.opc_policy_shared.specs.Shared.{AreCandidates}
 
 -- Among the candidates for names with a beginning, the same profile decides such a name as among all of a class.
@@ -16,7 +12,3 @@ CandidatesDecide =
     (profiles candidates : List Profile) (class : Class) (beginning rest : List ℕ) → AreProfiles profiles
     → ((p : Profile) → Contains profiles p → p.class ≡ class) → AreCandidates beginning profiles candidates
     → deciding candidates (beginning ++ rest) ≡ deciding profiles (beginning ++ rest)
-
--- A name that a pattern covers, with a period after it, follows the pattern's sort key.
-abbrev pub CoveredNamesFollow : Type 0
-CoveredNamesFollow = (p r : List ℕ) → IsPattern p → CoversText p r → follows (sort_key p) (r ++ 46 ∷ []) ≡ true

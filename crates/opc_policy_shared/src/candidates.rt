@@ -4,19 +4,14 @@ ghost use Rattle.std.specs.Prelude.{
   ◌↔◌,
   ◌≤◌,
   ◌<◌,
-  ◌++◌,
-  ◌∷◌,
-  [],
   ℕ,
   IfOk,
-  IfSome,
   IsTrue,
   MatchOption,
   None,
   length,
   slice_get,
   slice_index_or,
-  false,
   true,
 };
 ghost use Rattle.std.specs.Cmp.Lexicographic.{slice_cmp};
@@ -27,12 +22,10 @@ ghost use Rattle.opc_names.specs.Order.{sort_key};
 ghost use Rattle.opc_names.specs.Patterns.{CoversText};
 ghost use Rattle.opc_policy.specs.Deciding.{deciding};
 ghost use Rattle.opc_policy_members.specs.declared.profile.Profile.{Profile as TheProfile};
-ghost use Rattle.opc_policy_shared.specs.Follows.{FollowsNone, follows};
 
-use crate::obstacle::obstacle;
-use arrayvec::ArrayVec;
 use opc_names::name::Resource;
 use opc_names::pattern::SortKey;
+use opc_names_keys::past::{key_past, with_period};
 use opc_policy_members::profile::Profile;
 use std::alloc::{AllocError, Global};
 use std::marker::Model;
@@ -86,30 +79,6 @@ impl Candidate {
     {
         self.key < *key
     }
-
-    /// If a name differs from the sort key of the pattern, so that the pattern does not cover it: the first later key
-    /// that it may not differ from.
-    fn key_past(&self, name: &str) -> Option<SortKey>
-        ensures itself { IfSome result (λ _. follows (sort_key self.now.pattern) (name.now ++ 46 ∷ []) ≡ false) }
-        ensures later { IfSome result (λ upto. FollowsNone (name.now ++ 46 ∷ []) (sort_key self.now.pattern) upto) }
-    {
-        let key = self.key.as_slice();
-        let (at, next) = obstacle(key, name.as_bytes())?;
-        Some(key_of(&key[..at], next))
-    }
-}
-
-/// The sort key of these bytes and one more.
-fn key_of(common: &[u8], next: u8) -> SortKey
-    requires { length common.now < 40 }
-    ensures { result ≡ common.now ++ next ∷ [] }
-{
-    let mut bytes = ArrayVec::<u8, 40>::new();
-    for byte in common {
-        bytes.push(*byte);
-    }
-    bytes.push(next);
-    SortKey::copied(bytes.as_slice())
 }
 
 /// Profiles in the order of their patterns, to be searched for the first that covers a name.
@@ -164,11 +133,12 @@ impl Candidates {
         ensures { MatchOption result (deciding self.now resource.now ≡ None) (λ place.
             (place < length self.now) × (slice_get self.now place ≡ deciding self.now resource.now)) }
     {
+        let name = with_period(resource);
         let mut place = 0;
         while place < self.len() {
             let candidate = &self.list[place];
-            if let Some(key) = candidate.key_past(resource.text()) {
-                place = self.place_from(place + 1, &key);
+            if let Some(past) = key_past(&candidate.key(), name.as_slice()) {
+                place = self.place_from(place + 1, &past);
             } else if candidate.covers(resource) {
                 return Some(place);
             } else {

@@ -1,12 +1,7 @@
 //! The laws of the shared search, as what calls without a body ensure.
-ghost use Rattle.opc_policy_shared.specs.Laws.{CandidatesDecide, CoveredNamesFollow};
+ghost use Rattle.opc_policy_shared.specs.Laws.{CandidatesDecide};
 
 /// Among the candidates for names with a beginning, the same profile decides such a name as among all profiles.
 pub fn candidates_decide()
     ensures { CandidatesDecide }
-{}
-
-/// A name that a pattern covers follows the pattern's sort key.
-pub fn covered_names_follow()
-    ensures { CoveredNamesFollow }
 {}

@@ -4,6 +4,5 @@
 
 pub mod candidates;
 pub mod laws;
-mod obstacle;
 
 pub use crate::candidates::Candidates;

@@ -17,9 +17,10 @@ loop-place-preserved-in-Some c =
     let there : c.loop-place.place < length c.args.self.now = omega arith in
     let within = c.place_from-place.ensures.within in (
       within.1,
-      passed c.args.resource.now c.args.self.now patterns order c.loop-place.place c.place_from-place.result p c.in-Some.key there
-          within.1 is c.loop-place.invariant.1 (rw c.text.ensures.text at c.in-Some.ensures.itself)
-          (rw c.text.ensures.text at c.in-Some.ensures.later) c.place_from-place.ensures.below,
+      passed c.args.resource.now c.args.self.now patterns order c.loop-place.place c.place_from-place.result p c.in-Some.past there
+          within.1 is c.loop-place.invariant.1
+          (rw (c.as_slice.ensures.value, c.with_period-name.ensures, c.key.ensures) at c.in-Some.ensures.itself)
+          (rw (c.as_slice.ensures.value, c.with_period-name.ensures, c.key.ensures) at c.in-Some.ensures.later) c.place_from-place.ensures.below,
     )
 
 pub returns-then-covers : goal.returns-then-covers

@@ -1,5 +1,0 @@
-use Rattle.opc_policy_shared.proofs.Followed.{covered_names_follow}
-use Rattle.opc_policy_shared.proofs.laws.covered_names_follow.Goals as goal
-
-pub returns : goal.returns
-returns c = covered_names_follow

@@ -82,12 +82,19 @@ question_about (Have level) kind id actor context = access_asked level kind id a
 question_about Logon kind id actor context = logon_asked kind id actor context.console
 question_about Enter kind id actor context = command_asked kind id context.taken actor context.console
 
+-- only users log on
+abbrev pub being_no_logon : Wanted → Result Unit RequestFault
+being_no_logon (wanted.Logon name) = Err (Invalid key.SubjectType)
+being_no_logon other = Ok tt
+
 -- asked by a subject: at a console where nobody is logged on, only commands are entered
 abbrev pub by_nobody : (name : List ℕ) → AccessAction → (kind id : List ℕ) → AccessContext
     → Result AccessQuestion RequestFault
 by_nobody name Enter kind id context = do
   _ ← being_at name context.console
-  command_asked kind id context.taken None (Some name)
+  asked ← command_asked kind id context.taken None (Some name)
+  _ ← being_no_logon asked.wanted
+  Ok asked
 by_nobody name (Have level) kind id context = Err (Invalid key.SubjectType)
 by_nobody name Logon kind id context = Err (Invalid key.SubjectType)
 

@@ -5,6 +5,7 @@ ghost use Rattle.serde_json.specs.View.{view};
 ghost use Rattle.opc_decide_requests.specs.AccessQuestions.{
   access_asked,
   being_kind,
+  being_no_logon,
   by_nobody,
   command_asked,
   logon_asked,
@@ -152,6 +153,16 @@ fn question_about(
     }
 }
 
+/// Checks that no LOGON is asked about: only users log on.
+fn being_no_logon(wanted: &Wanted) -> Result<(), RequestFault>
+    ensures { result ≡ being_no_logon wanted.now }
+{
+    match wanted {
+        Wanted::Logon(_) => Err(RequestFault::Invalid(RequestKey::SubjectType)),
+        Wanted::Command(_) | Wanted::Access { .. } => Ok(()),
+    }
+}
+
 /// At a console where nobody is logged on only commands are entered.
 fn by_nobody(
     name: &ConsoleName,
@@ -165,7 +176,9 @@ fn by_nobody(
     match action {
         AccessAction::Enter => {
             context.being_at(name)?;
-            command_asked(kind, id, context.taken, None, Some(*name))
+            let asked = command_asked(kind, id, context.taken, None, Some(*name))?;
+            being_no_logon(&asked.wanted)?;
+            Ok(asked)
         }
         AccessAction::Have(_) | AccessAction::Logon => {
             Err(RequestFault::Invalid(RequestKey::SubjectType))

@@ -54,7 +54,6 @@ QUESTIONS = [
     one("a command by nobody at a console that wants a logon", entering(console("C3"), "D U"),
         answer("DENIED", "LOGONREQUIRED")),
     one("a command by nobody at a console that is missing", entering(console("C9"), "D U"), answer("NOCONSOLE", None)),
-    one("a LOGON by nobody", entering(console("C1"), "LOGON"), answer("NOCONSOLE", None)),
     one("a command by a user who is missing", entering(user("ZOE"), "D U"), answer("NOUSER", None)),
     one("a command about a job", entering(ANNA, "C CICS"), answer("ALLOWED", BACKUP)),
     one("the same command about a started task", entering(ANNA, "C CICS", **{"as": "STC:CICSPROD"}),
@@ -101,6 +100,10 @@ BAD = [
     bad("a LOGON at a resource", having(ANNA, "LOGON", "OPERCMDS", "C1"), "the key resource.type is invalid"),
     bad("a LOGON at no console's name", having(ANNA, "LOGON", "CONSOLE", "9X"), "the key resource.id is invalid"),
     bad("a LOGON by nobody, as an action", having(console("C1"), "LOGON", "CONSOLE", "C1"),
+        "the key subject.type is invalid"),
+    bad("a LOGON by nobody, as a command", entering(console("C1"), "LOGON ANNA,ABC"),
+        "the key subject.type is invalid"),
+    bad("a LOGON by nobody, as a command at a console that is missing", entering(console("C9"), "LOGON"),
         "the key subject.type is invalid"),
     bad("a level of nobody", having(console("C1"), "READ", "OPERCMDS", "MVS.LOG"), "the key subject.type is invalid"),
     bad("a context that is null", with_part("context", None), "the key context is invalid"),
@@ -179,6 +182,7 @@ def paged(body: dict[str, Any], **page: object) -> dict[str, Any]:
 
 WHO = {"subject": {"type": "user"}, "action": ENTER, "resource": {"type": COMMAND, "id": "C BACKUP"}}
 NOBODY = {**WHO, "subject": {"type": "console"}}
+LOGGING_ON = {**NOBODY, "resource": {"type": COMMAND, "id": "LOGON"}}
 WHAT = {"subject": ANNA, "resource": {"type": "OPERCMDS", "id": "MVS.CANCEL.JOB.BACKUP"}}
 WHERE = {"subject": BERT, "action": LOGON, "resource": {"type": "CONSOLE"}}
 NAMES = [{"name": name} for name in ("READ", "UPDATE")]
@@ -201,6 +205,10 @@ SEARCHES = [
     search("action", "a user who is missing", {**WHAT, "subject": user("ZOE")}, results()),
     search("resource", "where a user may log on", WHERE, results(*AT)),
     search("resource", "an id that is no console", {**WHERE, "resource": {"type": "CONSOLE", "id": 7}}, results(*AT)),
+    search("subject", "nobody, at one console", {**NOBODY, "context": {"console": "C2"}}, results(console("C2"))),
+    search("subject", "nobody, at one console where nobody may", {**NOBODY, "context": {"console": "C3"}}, results()),
+    search("resource", "whether a user may log on at one console", {**WHERE, "context": {"console": "C3"}},
+           results(AT[2])),
     search("resource", "the first page", paged(WHERE, limit=2), results(*AT[:2], next="C2", total=3)),
     search("resource", "the next page", paged(WHERE, limit=2, token="C2"), results(AT[2], total=3)),
     search("resource", "a page that ends with the last", paged(WHERE, limit=3), results(*AT)),
@@ -215,6 +223,13 @@ SEARCHES = [
         "the key resource.type is invalid", "resource"),
     bad("a search for commands", {**WHERE, "resource": {"type": COMMAND}}, "the key resource.type is invalid",
         "resource"),
+    bad("a search at a console that is missing", {**WHERE, "context": {"console": "C9"}},
+        "the key context.console is invalid", "resource"),
+    bad("a search for consoles that enter LOGON", LOGGING_ON, "the key subject.type is invalid", "subject"),
+    bad("a search for consoles that enter LOGON, at the first", {**LOGGING_ON, "context": {"console": "C1"}},
+        "the key subject.type is invalid", "subject"),
+    bad("a search for consoles that enter LOGON, at another", {**LOGGING_ON, "context": {"console": "C2"}},
+        "the key context.console is invalid", "subject"),
     bad("a search for actions without a subject", {"resource": AT[0]}, "the key subject is missing", "action"),
     *(
         bad(f"the limit {limit!r}", paged(WHERE, limit=limit), "the key page.limit is invalid", "resource")

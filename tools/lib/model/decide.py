@@ -132,7 +132,9 @@ def question_about(subject: tuple[str, str], action: str, of: str, id: str, cont
     user = name if kind == "user" else "-"
     if action == "enter":
         wants_valid(of == "command", "resource.type")
-        return wanted({**context, "command": id, "user": user})
+        asked = wanted({**context, "command": id, "user": user})
+        wants_valid(kind == "user" or not questions.asks_to_log_on(asked), "subject.type")
+        return asked
     if action == "LOGON":
         wants_valid(of == "CONSOLE", "resource.type")
         wants_valid(names.is_console(id), "resource.id")
@@ -174,7 +176,6 @@ def ruled(state: State, words: Words) -> tuple[str, str]:
         why.wants_user(state, user)
         return policy.verdict(state.policy, words["class"], words["resource"], user, words["level"], console)
     if questions.asks_to_log_on(words):
-        wants(user != "-", "E10")  # nobody logs on for nobody
         why.wants_user(state, user)
         wants(console in state.board.consoles, "E10")
         is_admitted, rule = logons.tried(state, console, user)

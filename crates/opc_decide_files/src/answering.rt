@@ -12,7 +12,8 @@ use opc_decide_answers::evaluation::evaluations;
 use opc_decide_answers::policy::DecidingPolicy;
 use opc_decide_present::decider::DecidedAnswer;
 use opc_decide_present::kind::QuestionKind;
-use opc_decide_searches::search::{action_search, resource_search, subject_search};
+use opc_decide_searches::search::search;
+use opc_decide_searches::sought::SearchKind;
 use std::alloc::{AllocError, Global};
 
 /// The answer to the body of a request, by the kind of its question. That to one question says what is decided.
@@ -30,9 +31,9 @@ pub fn answer_to(
     let reply = match kind {
         QuestionKind::Evaluation => return evaluation_answer(alloc, policy, body),
         QuestionKind::Evaluations => evaluations(alloc, policy, body)?,
-        QuestionKind::SubjectSearch => subject_search(alloc, policy, body)?,
-        QuestionKind::ActionSearch => action_search(alloc, policy, body)?,
-        QuestionKind::ResourceSearch => resource_search(alloc, policy, body)?,
+        QuestionKind::SubjectSearch => search(alloc, policy, SearchKind::Subject, body)?,
+        QuestionKind::ActionSearch => search(alloc, policy, SearchKind::Action, body)?,
+        QuestionKind::ResourceSearch => search(alloc, policy, SearchKind::Resource, body)?,
     };
     reply_answer(alloc, policy, kind, reply)
 }

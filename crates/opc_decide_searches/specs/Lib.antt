@@ -1,5 +1,6 @@
+pub mod Asking
 pub mod Candidates
 pub mod Found
 pub mod Pages
 pub mod SearchReplies
-pub mod Searches
+pub mod Sought

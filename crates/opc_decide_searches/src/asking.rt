@@ -1,11 +1,7 @@
-//! Searches: which actions and which class they are about, and which page of what they find.
+//! Which page of what it finds a search asks for.
 ghost use Rattle.std.specs.Prelude.{◌≡◌, Err, MatchResult, Ok};
-ghost use Rattle.std.specs.Option.{option_map};
 ghost use Rattle.serde_json.specs.View.{view};
-ghost use Rattle.opc_decide_searches.specs.Searches.{
-  actions_at,
-  actions_on,
-  class_at,
+ghost use Rattle.opc_decide_searches.specs.Asking.{
   limit_at,
   limit_in,
   limit_on,
@@ -13,70 +9,14 @@ ghost use Rattle.opc_decide_searches.specs.Searches.{
   token_on,
 };
 
-use opc_decide_requests::action::AccessAction;
 use opc_decide_requests::fault::RequestFault;
 use opc_decide_requests::key::RequestKey;
-use opc_decide_requests::parts::{being_object, object_at, text_at, text_if};
-use opc_names::level::Level;
+use opc_decide_requests::parts::{being_object, text_if};
 use opc_terms::fault::Fault;
 use serde_json::Value;
 
 /// The most results on a page.
 const MOST_RESULTS: u64 = 1000;
-
-const ON_OPERCMDS: [AccessAction; 4] = [
-    AccessAction::Have(Level::Alter),
-    AccessAction::Have(Level::Control),
-    AccessAction::Have(Level::Read),
-    AccessAction::Have(Level::Update),
-];
-
-const ON_CONSOLE: [AccessAction; 5] = [
-    AccessAction::Have(Level::Alter),
-    AccessAction::Have(Level::Control),
-    AccessAction::Logon,
-    AccessAction::Have(Level::Read),
-    AccessAction::Have(Level::Update),
-];
-
-const ON_COMMANDS: [AccessAction; 1] = [AccessAction::Enter];
-
-/// The actions on a resource of this type, by their names.
-fn actions_on(kind: &str) -> Option<&'static [AccessAction]>
-    ensures { option_map (λ actions. actions.now) result ≡ actions_on kind.now }
-{
-    match kind {
-        "OPERCMDS" => Some(&ON_OPERCMDS),
-        "CONSOLE" => Some(&ON_CONSOLE),
-        "command" => Some(&ON_COMMANDS),
-        // No other type has actions.
-        _ => None,
-    }
-}
-
-/// The actions that a search for actions tries.
-pub(crate) fn actions_at(body: &Value) -> Result<&'static [AccessAction], RequestFault>
-    ensures { MatchResult result (λ actions. actions_at (view body.now) ≡ Ok actions.now)
-        (λ why. actions_at (view body.now) ≡ Err why) }
-{
-    let resource = object_at(body, body, RequestKey::Resource)?;
-    match actions_on(text_at(resource, RequestKey::ResourceType)?) {
-        Some(actions) => Ok(actions),
-        None => Err(RequestFault::Invalid(RequestKey::ResourceType)),
-    }
-}
-
-/// Checks that a search for resources is for consoles: there is no end of the others.
-pub(crate) fn class_at(body: &Value) -> Result<(), RequestFault>
-    ensures { result ≡ class_at (view body.now) }
-{
-    let resource = object_at(body, body, RequestKey::Resource)?;
-    match text_at(resource, RequestKey::ResourceType)? {
-        "CONSOLE" => Ok(()),
-        // The resources of other types are not searched.
-        _ => Err(RequestFault::Invalid(RequestKey::ResourceType)),
-    }
-}
 
 fn limit_in(value: &Value) -> Option<u64>
     ensures { result ≡ limit_in (view value.now) }

@@ -6,17 +6,18 @@ ghost use Rattle.opc_decide_answers.specs.Evaluated.{element_permits};
 ghost use Rattle.opc_decide_searches.specs.Candidates.{asked};
 ghost use Rattle.opc_decide_searches.specs.Found.{
   action_candidates,
+  candidates_of,
   console_candidates,
   first_fault,
   nobody_at,
   permitted,
   reads,
   shared_fault,
-  subject_candidates,
   user_candidates,
 };
 
 use crate::candidate::AccessCandidate;
+use crate::sought::{Sought, actions_on};
 use opc_answers::logons::{Instead, NoLogon};
 use opc_decide_answers::decision::decision_of;
 use opc_decide_answers::policy::DecidingPolicy;
@@ -127,22 +128,7 @@ fn nobody_candidates(
     Ok(list)
 }
 
-/// The subjects of a type.
-pub(crate) fn subject_candidates(
-    alloc: Global,
-    policy: &DecidingPolicy,
-    kind: SubjectKind,
-) -> Result<Vec<AccessCandidate>, AllocError>
-    ensures { IfOk result (λ list. list.items ≡ subject_candidates policy.now.state kind) }
-{
-    match kind {
-        SubjectKind::User => user_candidates(alloc, policy),
-        SubjectKind::Console => nobody_candidates(alloc, policy),
-    }
-}
-
-/// Actions.
-pub(crate) fn action_candidates(
+fn action_candidates(
     alloc: Global,
     actions: &[AccessAction],
 ) -> Result<Vec<AccessCandidate>, AllocError>
@@ -155,8 +141,7 @@ pub(crate) fn action_candidates(
     Ok(list)
 }
 
-/// The consoles, as resources.
-pub(crate) fn console_candidates(
+fn console_candidates(
     alloc: Global,
     policy: &DecidingPolicy,
 ) -> Result<Vec<AccessCandidate>, AllocError>
@@ -168,4 +153,20 @@ pub(crate) fn console_candidates(
         list.push(AccessCandidate::Console(console.name))?;
     }
     Ok(list)
+}
+
+/// Those that a search tries.
+pub(crate) fn candidates_of(
+    alloc: Global,
+    policy: &DecidingPolicy,
+    sought: Sought,
+) -> Result<Vec<AccessCandidate>, AllocError>
+    ensures { IfOk result (λ list. list.items ≡ candidates_of policy.now.state sought) }
+{
+    match sought {
+        Sought::Subjects(SubjectKind::User) => user_candidates(alloc, policy),
+        Sought::Subjects(SubjectKind::Console) => nobody_candidates(alloc, policy),
+        Sought::Actions(kind) => action_candidates(alloc, actions_on(kind)),
+        Sought::Consoles => console_candidates(alloc, policy),
+    }
 }

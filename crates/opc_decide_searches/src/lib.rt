@@ -7,3 +7,4 @@ pub mod candidate;
 mod finding;
 mod page;
 pub mod search;
+pub mod sought;

@@ -1,27 +1,17 @@
 //! The answers to searches.
 ghost use Rattle.std.specs.Prelude.{◌≡◌, IfOk};
 ghost use Rattle.serde_json.specs.View.{view};
-ghost use Rattle.opc_decide_searches.specs.SearchReplies.{
-  action_search,
-  actions_reply,
-  consoles_reply,
-  found_reply,
-  resource_search,
-  subject_search,
-  subjects_reply,
-};
+ghost use Rattle.opc_decide_searches.specs.SearchReplies.{found_reply, search, search_in};
 
-use crate::asking::{actions_at, class_at, limit_at, token_at};
+use crate::asking::{limit_at, token_at};
 use crate::candidate::AccessCandidate;
-use crate::finding::{
-    action_candidates, console_candidates, permitted, shared_fault, subject_candidates,
-};
+use crate::finding::{candidates_of, permitted, shared_fault};
 use crate::page::results_value;
+use crate::sought::{SearchKind, sought_at};
 use opc_decide_answers::policy::DecidingPolicy;
 use opc_decide_answers::reply::{DecideReply, bad, done};
-use opc_decide_requests::body::{being_body, value_in};
+use opc_decide_requests::body::value_in;
 use opc_decide_requests::fault::RequestFault;
-use opc_decide_requests::subject::kind_at;
 use serde_json::Value;
 use std::alloc::{AllocError, Global};
 
@@ -51,101 +41,34 @@ fn found_reply(
     done(alloc, &value)
 }
 
-fn subjects_reply(
+fn search_in(
     alloc: Global,
     policy: &DecidingPolicy,
+    kind: SearchKind,
     body: &Value,
 ) -> Result<DecideReply, AllocError>
-    ensures { IfOk result (λ reply. reply ≡ subjects_reply policy.now (view body.now)) }
+    ensures { IfOk result (λ reply. reply ≡ search_in policy.now kind (view body.now)) }
 {
-    if let Err(why) = being_body(body) {
-        return bad(alloc, &why);
-    }
-    match kind_at(body) {
-        Ok(kind) => {
-            let candidates = subject_candidates(alloc, policy, kind)?;
+    match sought_at(kind, body) {
+        Ok(sought) => {
+            let candidates = candidates_of(alloc, policy, sought)?;
             found_reply(alloc, policy, body, candidates.as_slice())
         }
         Err(why) => bad(alloc, &why),
     }
 }
 
-fn actions_reply(
+/// Which subjects may do this, what a subject may do with a resource, or at which consoles.
+pub fn search(
     alloc: Global,
     policy: &DecidingPolicy,
-    body: &Value,
-) -> Result<DecideReply, AllocError>
-    ensures { IfOk result (λ reply. reply ≡ actions_reply policy.now (view body.now)) }
-{
-    if let Err(why) = being_body(body) {
-        return bad(alloc, &why);
-    }
-    match actions_at(body) {
-        Ok(actions) => {
-            let candidates = action_candidates(alloc, actions)?;
-            found_reply(alloc, policy, body, candidates.as_slice())
-        }
-        Err(why) => bad(alloc, &why),
-    }
-}
-
-fn consoles_reply(
-    alloc: Global,
-    policy: &DecidingPolicy,
-    body: &Value,
-) -> Result<DecideReply, AllocError>
-    ensures { IfOk result (λ reply. reply ≡ consoles_reply policy.now (view body.now)) }
-{
-    if let Err(why) = being_body(body) {
-        return bad(alloc, &why);
-    }
-    match class_at(body) {
-        Ok(()) => {
-            let candidates = console_candidates(alloc, policy)?;
-            found_reply(alloc, policy, body, candidates.as_slice())
-        }
-        Err(why) => bad(alloc, &why),
-    }
-}
-
-/// Which subjects of a type may do this.
-pub fn subject_search(
-    alloc: Global,
-    policy: &DecidingPolicy,
+    kind: SearchKind,
     body: &[u8],
 ) -> Result<DecideReply, AllocError>
-    ensures { IfOk result (λ reply. reply ≡ subject_search policy.now body.now) }
+    ensures { IfOk result (λ reply. reply ≡ search policy.now kind body.now) }
 {
     match value_in(alloc, body)? {
-        Some(value) => subjects_reply(alloc, policy, &value),
-        None => bad(alloc, &RequestFault::NotJson),
-    }
-}
-
-/// What a subject may do with a resource.
-pub fn action_search(
-    alloc: Global,
-    policy: &DecidingPolicy,
-    body: &[u8],
-) -> Result<DecideReply, AllocError>
-    ensures { IfOk result (λ reply. reply ≡ action_search policy.now body.now) }
-{
-    match value_in(alloc, body)? {
-        Some(value) => actions_reply(alloc, policy, &value),
-        None => bad(alloc, &RequestFault::NotJson),
-    }
-}
-
-/// At which consoles a subject may do this.
-pub fn resource_search(
-    alloc: Global,
-    policy: &DecidingPolicy,
-    body: &[u8],
-) -> Result<DecideReply, AllocError>
-    ensures { IfOk result (λ reply. reply ≡ resource_search policy.now body.now) }
-{
-    match value_in(alloc, body)? {
-        Some(value) => consoles_reply(alloc, policy, &value),
+        Some(value) => search_in(alloc, policy, kind, &value),
         None => bad(alloc, &RequestFault::NotJson),
     }
 }

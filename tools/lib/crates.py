@@ -25,8 +25,9 @@ def layers_in(text: str) -> Layers:
         if line.startswith("#"):
             found.append((line.lstrip("# "), {}))
         elif line.strip():
-            name, below = line.split(":")
-            found[-1][1][name] = below.split()
+            # (what it is stands after its name, if it is a static library)
+            named, below = line.split(":")
+            found[-1][1][named.split()[0]] = below.split()
     return found
 
 

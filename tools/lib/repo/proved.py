@@ -8,7 +8,7 @@ from typing import NamedTuple
 from lib import crates
 
 # `pub fn`, with the indentation of a free function or of a method
-FUNCTION = re.compile(r"( *)pub (?:const |unsafe )?fn (\w+)")
+FUNCTION = re.compile(r'( *)pub (?:const |unsafe |extern "C" )?fn (\w+)')
 PART = re.compile(r"(?:unsafe )?(impl\b|(?:pub )?trait\b)(.*)")
 CLAUSE = re.compile(r" *(?:ensures|requires)(?: (\w+))? \{")
 OF_TYPE = re.compile(r"(?:&?\w+::)*(\w+)")

@@ -1,0 +1,4 @@
+pub mod Words
+pub mod Unanswered
+pub mod Answers
+pub mod Replies

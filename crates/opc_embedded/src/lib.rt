@@ -1,0 +1,9 @@
+//! Questions about policies that another program has as bytes. No file is opened, and nothing is printed.
+#![tactic(auto)]
+
+pub mod asking;
+mod comparing;
+pub mod reply;
+pub mod texts;
+pub mod unanswered;
+mod words;

@@ -33,6 +33,8 @@ PACKAGES = {
     "nginx": "nginx",
     "openssl": "openssl",
     "ansible-playbook": "ansible-core",
+    "wasm-opt": "binaryen",
+    "node": "nodejs",
 }
 # If this variable is 1, what is missing is installed. tools/lib/setup.sh names it, too.
 VARIABLE = "OPCMDS_INSTALL"

@@ -14,7 +14,7 @@ from lib.places import TOP
 ROW = re.compile(r"(?m)^(\S) +(\S+) +(\S+) +(\S+)$")
 DIGRAPHS = re.compile(r"(?m)^digraphs (.*)$")
 # of no text file: its bytes are not UTF-8
-BINARY = ".db"
+BINARY = (".db", ".png")
 CODE = """\
 pub(crate) struct Desk<'a>(&'a str);
 enum Reply { Yes }

@@ -13,11 +13,11 @@ class NoProgram(Exception):
     """Why a program cannot be installed, and what to do."""
 
 
-def proof_of(program: str) -> str | None:
-    """The commit and the kit of the proof, if the program is the one that tools/build proved, of these sources."""
-    if os.path.isfile(program) and record.is_of(program, record.digest(TOP, "opcmds", record.PROVED)):
-        with open(f"{program}.sources", encoding="utf-8") as file:
-            return file.read().split("\n")[2]
+def proof_of(program: str, crate: str = "opcmds") -> str | None:
+    """The commit and the kit of the proof, if the program is the one that tools/build proved, of these sources. Of the
+    library, that it was compiled without a proof, if it was."""
+    if os.path.isfile(program) and record.is_of(program, record.digest(TOP, crate, record.PROVED)):
+        return record.note_of(program)
     return None
 
 
@@ -28,6 +28,14 @@ def answers(program: str) -> bool:
     except OSError:
         return False
     return ran.returncode == 0 and "opcmds" in ran.stdout
+
+
+def note_of_library(shared: str) -> str:
+    """What is said of the library that is installed, proved or not."""
+    if not os.path.isfile(shared):
+        raise NoProgram(f"there is no {shared}: tools/library makes it")
+    proof = proof_of(shared, "opc_c") or "not known to be proved"
+    return f"libopcmds.so {version()}: {proof}; SHA-256 {record.of_program(shared)}"
 
 
 def note_of(program: str, is_named: bool) -> str:

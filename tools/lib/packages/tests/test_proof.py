@@ -6,7 +6,7 @@ import unittest
 from unittest import mock
 
 from lib import record
-from lib.packages.proof import NoProgram, note_of, proof_of, version
+from lib.packages.proof import NoProgram, note_of, note_of_library, proof_of, version
 from lib.packages.trees import listed
 from lib.places import TOP
 
@@ -50,6 +50,15 @@ class Proof(unittest.TestCase):
             self.note("d1")
         with self.assertRaisesRegex(NoProgram, "is not a program that answers --help"):
             self.note("d1", True)
+
+    def test_a_library(self) -> None:
+        with mock.patch.object(record, "digest", return_value="d1") as digest:
+            self.assertIn(": commit c1, proved by kit-1; SHA-256", note_of_library(self.program))
+        digest.assert_called_once_with(TOP, "opc_c", record.PROVED)
+        with mock.patch.object(record, "digest", return_value="d2"):
+            self.assertIn(": not known to be proved; SHA-256", note_of_library(self.program))
+        with self.assertRaisesRegex(NoProgram, "tools/library makes it"):
+            note_of_library(f"{self.program}.so")
 
     def test_what_is_installed_is_there(self) -> None:
         with open(f"{TOP}/packaging/files", encoding="utf-8") as file:

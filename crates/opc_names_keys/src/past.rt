@@ -1,5 +1,5 @@
 //! Where a text differs from a sort key, and from which later keys it differs as well.
-ghost use Rattle.std.specs.Prelude.{◌≡◌, ◌<◌, ◌++◌, ◌∷◌, [], IfSome, false, length, take, true};
+ghost use Rattle.std.specs.Prelude.{◌≡◌, ◌<◌, ◌++◌, ◌∷◌, [], IfSome, None, false, length, take, true};
 ghost use Rattle.std.specs.Cmp.Lexicographic.{slice_cmp};
 ghost use Rattle.std.specs.Ordering.{is_lt, nat_cmp};
 ghost use Rattle.opc_names_keys.specs.Follows.{FollowsNone, byte_past, follows, stands_for};
@@ -39,6 +39,7 @@ fn byte_past(byte: u8, character: u8) -> u8
 /// Where a text differs from a sort key, if it does so before the key's first `*` or `**`: the place in the key, and a
 /// byte. The text differs from each later key as well, up to the one with this byte there.
 fn obstacle(key: &[u8], text: &[u8]) -> Option<(usize, u8)>
+    ensures none { result ≡ None → follows key.now text.now ≡ true }
     ensures within { IfSome result (λ found. found.0 < length key.now) }
     ensures itself { IfSome result (λ _. follows key.now text.now ≡ false) }
     ensures further { IfSome result (λ found.
@@ -85,6 +86,7 @@ pub fn with_period(name: &Resource) -> Bytes<40>
 /// If a text differs from a sort key before the key's first `*` or `**`: the first later key that it may not differ
 /// from.
 pub fn key_past(key: &SortKey, text: &[u8]) -> Option<SortKey>
+    ensures none { result ≡ None → follows key.now text.now ≡ true }
     ensures itself { IfSome result (λ _. follows key.now text.now ≡ false) }
     ensures further { IfSome result (λ past. is_lt (slice_cmp nat_cmp key.now past) ≡ true) }
     ensures later { IfSome result (λ past. FollowsNone text.now key.now past) }

@@ -70,34 +70,35 @@ module _ (class : Class) (resource : List ℕ) where
       ∙ sym (filter_both (λ (p : Profile). same_class p.class class) (λ (p : Profile). covers_text p.pattern resource) ps))
 
   module _ (start : Bound (List ℕ)) where
+    abbrev after : Profile → Profile → Bool
+    after x q = is_covering_from class resource (Excluded (sort_key x.pattern)) q
+
     -- after the first the others come
     others : (p : Profile) (ps : List Profile) → All (IsEarlier p) ps → is_of_from class start p ≡ true
-        → All (λ q. is_covering_from class resource start q ≡ is_covering_from class resource (Excluded (sort_key p.pattern)) q) ps
+        → All (λ q. is_covering_from class resource start q ≡ after p q) ps
     others p ps earlier here k d l = both_ways _ _ there back
       where
-        there : is_covering_from class resource start (get_or ps k d) ≡ true → is_covering_from class resource (Excluded (sort_key p.pattern)) (get_or ps k d) ≡ true
+        there : is_covering_from class resource start (get_or ps k d) ≡ true → after p (get_or ps k d) ≡ true
         there h =
             let parts = both_true (is_of_from class start (get_or ps k d)) (covers_text (get_or ps k d).pattern resource) h in
-            let same = both_true (same_class (get_or ps k d).class class) (is_from_start (slice_cmp nat_cmp) start (sort_key (get_or ps k d).pattern)) parts.0 in
+            let same = both_true (same_class (get_or ps k d).class class) _ parts.0 in
             both _ _ (both _ _ same.0 (earlier k d l (of_one class start p here ∙ sym (of_one class start (get_or ps k d) parts.0)))) parts.1
 
-        back : is_covering_from class resource (Excluded (sort_key p.pattern)) (get_or ps k d) ≡ true → is_covering_from class resource start (get_or ps k d) ≡ true
+        back : after p (get_or ps k d) ≡ true → is_covering_from class resource start (get_or ps k d) ≡ true
         back h =
             let parts = both_true (is_of_from class (Excluded (sort_key p.pattern)) (get_or ps k d)) (covers_text (get_or ps k d).pattern resource) h in
             both _ _ (next_first class resource start p here (get_or ps k d) parts.0) parts.1
 
-    abbrev after : Profile → Profile → Bool
-    after x q = is_covering_from class resource (Excluded (sort_key x.pattern)) q
-
     one_more : (first : Profile) (ps : List Profile) → AreMostSpecificFirst ps → find (is_covering_from class resource start) ps ≡ Some first
-        → filter (is_covering_from class resource start) ps ≡ first ∷ filter (is_covering_from class resource (Excluded (sort_key first.pattern))) ps
+        → filter (is_covering_from class resource start) ps ≡ first ∷ filter (after first) ps
     one_more first [] order is = (cc)
     one_more first (p ∷ ps) order is =
         go (is_covering_from class resource start p) refl is (λ e. one_more first ps (pairs_tail IsEarlier p ps order) e)
       where
         go : (b : Bool) → is_covering_from class resource start p ≡ b
             → cond b (Some p) (find (is_covering_from class resource start) ps) ≡ Some first
-            → (find (is_covering_from class resource start) ps ≡ Some first → filter (is_covering_from class resource start) ps ≡ first ∷ filter (after first) ps)
+            → (find (is_covering_from class resource start) ps ≡ Some first
+            → filter (is_covering_from class resource start) ps ≡ first ∷ filter (after first) ps)
             → filter (is_covering_from class resource start) (p ∷ ps) ≡ first ∷ filter (after first) (p ∷ ps)
         go true e is more =
             let same : p ≡ first = (cc) in
@@ -146,5 +147,5 @@ module _ (class : Class) (resource : List ℕ) where
     no_more_patterns ps done is = sym (ap (λ found. done ++ map (λ (p : Profile). p.pattern) found) (none_listed ps is) ∙ append-nil done)
 
     pub one_fewer : (first : Profile) (ps : List Profile) → AreMostSpecificFirst ps → find (is_covering_from class resource start) ps ≡ Some first
-        → length (filter (is_covering_from class resource (Excluded (sort_key first.pattern))) ps) < length (filter (is_covering_from class resource start) ps)
+        → length (filter (after first) ps) < length (filter (is_covering_from class resource start) ps)
     one_fewer first ps order is = rw (one_more first ps order is) (omega arith)

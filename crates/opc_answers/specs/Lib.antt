@@ -8,6 +8,7 @@ pub mod Logons
 pub mod Made
 pub mod Needed
 pub mod Questions
+pub mod Taken
 pub mod Texts
 pub mod Who
 pub mod Why

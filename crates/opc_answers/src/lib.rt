@@ -18,6 +18,7 @@ pub mod question;
 pub mod raised;
 pub mod room;
 pub mod shows;
+pub mod taken;
 pub mod text;
 pub mod wanted;
 pub mod who;

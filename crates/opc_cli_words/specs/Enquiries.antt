@@ -1,7 +1,6 @@
 -- The subject of `opcmds explain` and `opcmds who`, by the values of their options.
 use Rattle.std.specs.Prelude.{
   ◌≡◌,
-  ◌&&◌,
   ◌||◌,
   ℕ,
   Bool,
@@ -13,41 +12,27 @@ use Rattle.std.specs.Prelude.{
   Option,
   Some,
   None,
-  codes,
-  drop,
-  if◌then◌else◌,
   is_none,
   is_some,
-  nat_eq,
   not,
   unwrap_or,
 }
-use Rattle.std.specs.List.{starts_with}
 use Rattle.std.specs.Option.{option_map_or}
-use Rattle.std.specs.Str.{bytes_eq}
 use Rattle.opc_answers.specs.Needed.{is_logon}
+use Rattle.opc_answers.specs.Taken.{kind_of}
 use Rattle.opc_answers.specs.declared.question.About.{About}
 use Rattle.opc_answers.specs.declared.question.About.TheVariants.{Command, Access}
-use Rattle.opc_names.specs.Names.{name_fault, resource_rule, unit_rule}
+use Rattle.opc_names.specs.Names.{name_fault, resource_rule}
 use Rattle.opc_names.specs.Spellings.{classes, levels, lookup}
 use Rattle.opc_names.specs.declared.rule.NameRule.{NameRule}
 use Rattle.opc_terms.specs.declared.unit_kind.UnitKindAt.{UnitKindAt}
-use Rattle.opc_terms.specs.declared.unit_kind.UnitKindAt.TheVariants.{Absent, Job, Stc, Tsu}
+use Rattle.opc_terms.specs.declared.unit_kind.UnitKindAt.TheVariants.{Absent}
 use Rattle.opc_cli_words.specs.Checks.{Check}
 use Rattle.opc_cli_words.specs.declared.mistake.Mistake.TheVariants as wrong
 use Rattle.opc_cli_words.specs.declared.mistake.Opt.TheVariants as opt
 
 abbrev pub is_a : NameRule → List ℕ → Bool
 is_a rule text = is_none (name_fault rule text)
-
--- a kind of unit, as it is written: JOB, TSU, or STC: and a member
-abbrev pub task_of : List ℕ → Option UnitKindAt
-task_of text = if starts_with nat_eq text (codes "STC:") && is_a unit_rule (drop 4 text) then Some (Stc (drop 4 text))
-    else None
-
-abbrev pub kind_of : List ℕ → Option UnitKindAt
-kind_of text = if bytes_eq text (codes "JOB") then Some Job else
-    (if bytes_eq text (codes "TSU") then Some Tsu else task_of text)
 
 -- no unit is on the board if none is written
 abbrev pub kind_given : (kind : Option (List ℕ)) → Option UnitKindAt

@@ -7,37 +7,14 @@ ghost use Rattle.opc_cli_words.specs.Enquiries.{
   command_checks,
   kind_check,
   kind_given,
-  kind_of,
   logon_check,
-  task_of,
 };
 
 use crate::mistake::{Mistake, Opt};
 use opc_answers::needed::is_logon;
-use opc_names::name::{ConsoleName, UnitName};
+use opc_answers::taken::kind_of;
+use opc_names::name::ConsoleName;
 use opc_terms::unit_kind::UnitKindAt;
-
-/// A started task, written `STC:` and its member.
-fn task_of(text: &str) -> Option<UnitKindAt>
-    ensures { result ≡ task_of text.now }
-{
-    let member = text.strip_prefix("STC:")?;
-    match UnitName::read(member) {
-        Ok(member) => Some(UnitKindAt::Stc { member }),
-        Err(_) => None,
-    }
-}
-
-fn kind_of(text: &str) -> Option<UnitKindAt>
-    ensures { result ≡ kind_of text.now }
-{
-    match text {
-        "JOB" => Some(UnitKindAt::Job),
-        "TSU" => Some(UnitKindAt::Tsu),
-        // A started task has its member after it, so it is no fixed word.
-        _ => task_of(text),
-    }
-}
 
 /// The kind of the unit that the command names.
 fn kind_in(given: Option<&str>) -> Result<UnitKindAt, Mistake>

@@ -1,13 +1,13 @@
 -- Where access is asked for: the context of a question.
-use Rattle.std.specs.Prelude.{ℕ, List, Option, Some, None, Result, Ok, Err, codes, drop, if◌then◌else◌, nat_eq}
-use Rattle.std.specs.List.{starts_with}
+use Rattle.std.specs.Prelude.{ℕ, List, Option, Some, None, Result, Ok, Err, if◌then◌else◌}
 use Rattle.std.specs.Option.{ok_or, option_map}
 use Rattle.std.specs.Str.{bytes_eq}
 use Rattle.serde_json.specs.Data.{Data}
-use Rattle.opc_names.specs.Names.{console_rule, unit_rule}
+use Rattle.opc_names.specs.Names.{console_rule}
 use Rattle.opc_terms.specs.declared.unit_kind.UnitKindAt.{UnitKindAt}
-use Rattle.opc_terms.specs.declared.unit_kind.UnitKindAt.TheVariants.{Absent, Job, Stc, Tsu}
+use Rattle.opc_terms.specs.declared.unit_kind.UnitKindAt.TheVariants.{Absent}
 use Rattle.opc_import.specs.Fields.{name_of}
+use Rattle.opc_answers.specs.Taken.{kind_of}
 use Rattle.opc_decide_requests.specs.Parts.{being_object, member_of, text_if}
 use Rattle.opc_decide_requests.specs.RequestFaults.{◌>>=◌}
 use Rattle.opc_decide_requests.specs.declared.context.AccessContext.{AccessContext}
@@ -23,14 +23,7 @@ console_by (Some name) = ok_or (option_map Some (name_of console_rule name)) (In
 abbrev pub console_in : Data → Result (Option (List ℕ)) RequestFault
 console_in value = text_if Console value >>= console_by
 
--- what the unit of a command is taken for: JOB, TSU, or STC: and a member; a job, if nothing is said
-abbrev pub task_of : List ℕ → Option UnitKindAt
-task_of text = if starts_with nat_eq text (codes "STC:") then option_map Stc (name_of unit_rule (drop 4 text)) else None
-
-abbrev pub kind_of : List ℕ → Option UnitKindAt
-kind_of text = if bytes_eq text (codes "JOB") then Some Job else
-    (if bytes_eq text (codes "TSU") then Some Tsu else task_of text)
-
+-- what the unit of a command is taken for; a job, if nothing is said
 abbrev pub taken_by : Option (List ℕ) → Result UnitKindAt RequestFault
 taken_by None = Ok Absent
 taken_by (Some text) = ok_or (kind_of text) (Invalid Taken)

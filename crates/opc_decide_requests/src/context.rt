@@ -6,15 +6,14 @@ ghost use Rattle.opc_decide_requests.specs.Contexts.{
   console_in,
   context_at,
   context_in,
-  kind_of,
   no_context,
-  task_of,
   taken_in,
 };
 
 use crate::fault::RequestFault;
 use crate::key::RequestKey;
 use crate::parts::{being_object, member_of, text_if};
+use opc_answers::taken::kind_of;
 use opc_import::field::read_name;
 use opc_names::name::ConsoleName;
 use opc_terms::fault::Fault;
@@ -37,25 +36,6 @@ fn console_in(context: &Value) -> Result<Option<ConsoleName>, RequestFault>
     match read_name(name) {
         Some(console) => Ok(Some(console)),
         None => Err(RequestFault::Invalid(RequestKey::Console)),
-    }
-}
-
-/// A started task, by its member.
-fn task_of(text: &str) -> Option<UnitKindAt>
-    ensures { result ≡ task_of text.now }
-{
-    let member = read_name(text.strip_prefix("STC:")?)?;
-    Some(UnitKindAt::Stc { member })
-}
-
-fn kind_of(text: &str) -> Option<UnitKindAt>
-    ensures { result ≡ kind_of text.now }
-{
-    match text {
-        "JOB" => Some(UnitKindAt::Job),
-        "TSU" => Some(UnitKindAt::Tsu),
-        // A started task has its member after it, so it is no fixed word.
-        _ => task_of(text),
     }
 }
 

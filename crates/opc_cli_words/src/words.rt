@@ -167,8 +167,8 @@ fn report_words<W: Write, E: Write>(
         ErrorKind::DisplayVersion => report_version(output, errors),
         // Every other kind is a mistake in the arguments.
         _ => {
-            let _ = write!(errors.inner, "{error}");
-            let _ = note_slip(after_first(words), &mut errors.inner);
+            errors.failed |= write!(errors.inner, "{error}").is_err();
+            errors.failed |= note_slip(after_first(words), &mut errors.inner).is_err();
             Status::BadInput
         }
     }

@@ -33,15 +33,18 @@ abbrev pub answer_by : Result State Fault → Wanted → (console : Option (List
 answer_by (Ok s) w console asks = answer_in s w console asks
 answer_by (Err fault) w console asks = Err fault
 
--- What is wanted is answered by the rows, as the first policy of new tables; what needs nothing without them.
-abbrev pub answer_about : Question → List Row → Result (Option Wanted) Fault → Result PolicyAnswer Fault
-answer_about q rows (Ok None) = Ok answer.Nothing
-answer_about q rows (Ok (Some w)) = answer_by (bootstrapped rows empty) w q.console q.asks
-answer_about q rows (Err fault) = Err fault
+-- What is wanted is answered by what rows make, as the first policy of new tables; what needs nothing without them.
+abbrev pub answer_about : Question → Result State Fault → Result (Option Wanted) Fault → Result PolicyAnswer Fault
+answer_about q made (Ok None) = Ok answer.Nothing
+answer_about q made (Ok (Some w)) = answer_by made w q.console q.asks
+answer_about q made (Err fault) = Err fault
+
+abbrev pub answer_made : Question → Result State Fault → Result PolicyAnswer Fault
+answer_made q made = answer_about q made (wanted_of q.about q.console)
 
 -- what the rows of a policy answer to a question
 abbrev pub answer_of : Question → List Row → Result PolicyAnswer Fault
-answer_of q rows = answer_about q rows (wanted_of q.about q.console)
+answer_of q rows = answer_made q (bootstrapped rows empty)
 
 -- the lines of an answer can be made
 abbrev pub CanBePrinted : PolicyAnswer → Type 0

@@ -43,10 +43,10 @@ fn answer_in(
             let why = why_in(alloc, &room, *levels, wanted, actor.as_ref(), console)?;
             Ok(PolicyAnswer::Why(why))
         }
-        Asks::Who { allowed } => {
-            let who = who_in(room, wanted, console)?;
-            Ok(PolicyAnswer::Who(who, *allowed))
-        }
+        Asks::Who { allowed } => match who_in(room, wanted, console) {
+            Ok(who) => Ok(PolicyAnswer::Who(who, *allowed)),
+            Err(none) => Err(none.fault),
+        },
     }
 }
 

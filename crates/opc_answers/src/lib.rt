@@ -2,6 +2,7 @@
 #![tactic(auto)]
 
 pub mod answer;
+mod asked;
 pub mod beginning;
 pub mod consoles;
 pub mod counts;

@@ -6,19 +6,19 @@ ghost use Rattle.opc_names.specs.declared.class.Class.TheVariants.{Opercmds};
 ghost use Rattle.opc_board.specs.Invariants.{console_at};
 ghost use Rattle.opc_answers.specs.Made.{members_of, state_of};
 ghost use Rattle.opc_answers.specs.Deciding.{decider};
-ghost use Rattle.opc_answers.specs.Who.{HasDecider, asked_at, console_lines, on_board, shows_by, who_at, who_in};
+ghost use Rattle.opc_answers.specs.Who.{HasDecider, console_lines, shows_by, who_in};
 ghost use Rattle.opc_answers.specs.declared.who.AskedAt.TheVariants.{OnBoard};
 ghost use Rattle.opc_answers.specs.Doors.{AreDoorsFor};
 
+use crate::asked::{WhoBasis, basis_in};
 use crate::consoles::{ConsoleLine, console_lines};
-use crate::deciding::decider;
 use crate::doors::{Doors, doors_at};
 use crate::lines::{UserLine, logon_line, member_line, or_authority};
 use crate::logons::{Instead, NoLogon};
 use crate::members::UserWithGroups;
 use crate::raised::{is_raised, named};
 use crate::room::Room;
-use crate::shows::{Shows, line_decider, shows_by, with_line};
+use crate::shows::{Shows, line_decider, with_line};
 use crate::wanted::{Entered, Wanted};
 use opc_board::board::Board;
 use opc_board::rows::ConsoleRow;
@@ -92,6 +92,13 @@ impl Who {
       shown_at,
       users_of,
     };
+
+    /// The room that answered.
+    pub fn into_room(self) -> Room
+        ensures { result ≡ self.room }
+    {
+        self.room
+    }
 
     /// What is said of a user there, with those doors, but for the line that a command asks for.
     fn plain_at(&self, at: &AskedAt, doors: &Doors<'_>, member: &UserWithGroups) -> UserLine
@@ -300,60 +307,33 @@ pub fn console_of<'a>(board: &'a Board, name: &ConsoleName) -> Option<&'a Consol
     board.rows().consoles.find(name)
 }
 
-/// At the console of this name, which must be on the board.
-#[tactic(auto, using(crate::proofs::Placed::on_board_so))]
-fn on_board(board: &Board, name: &ConsoleName) -> Result<AskedAt, Fault>
-    ensures { result ≡ on_board (console_at board.now name.now) }
-{
-    match console_of(board, name) {
-        Some(console) => Ok(AskedAt::OnBoard(*console)),
-        None => Err(Fault::NoConsole),
-    }
+/// A room that has no answer, and why.
+#[derive(Drop)]
+pub struct NoAnswer {
+    pub fault: Fault,
+    pub room: Room,
 }
 
-/// Where the question is asked. A command and a LOGON need a console of the board, a level of access takes any.
-fn asked_at(board: &Board, wanted: &Wanted, console: Option<&ConsoleName>) -> Result<AskedAt, Fault>
-    ensures { result ≡ asked_at board.now wanted.now (option_copied console.entry) }
-{
-    match (wanted, console) {
-        (Wanted::Logon(name), _) | (Wanted::Command(_), Some(name)) => on_board(board, name),
-        (Wanted::Access { .. }, Some(name)) => Ok(AskedAt::Named(*name)),
-        (Wanted::Command(_) | Wanted::Access { .. }, None) => Ok(AskedAt::Everywhere),
-    }
-}
-
-/// The answer, by the profile that decides.
-fn who_at(room: Room, wanted: &Wanted, at: AskedAt) -> Result<Who, Fault>
-    requires { room.members ≡ members_of room.policy }
-    ensures ok { IfOk result (λ who. who ≡ who_at room.policy room.board wanted.now at) }
-    ensures decider { IfOk result HasDecider }
-    ensures fault { IfErr result (λ fault. fault ≡ why.NoMemory) }
-{
-    let decided = decider(&room.policy, wanted.class(), &wanted.resource())?;
-    let shows = shows_by(&room.policy, wanted.line())?;
-    Ok(Who {
-        wanted: *wanted,
-        active: room.policy.active.contains(wanted.class()),
-        decided,
-        shows,
-        room,
-        at,
-    })
-}
-
-/// Who may do what the question is about, at a console if one is named.
-pub(crate) fn who_in(
-    room: Room,
-    wanted: &Wanted,
-    console: Option<&ConsoleName>,
-) -> Result<Who, Fault>
+/// Who may do what the question is about, at a console if one is named. The answer has the room, or it is handed back.
+pub fn who_in(room: Room, wanted: &Wanted, console: Option<&ConsoleName>) -> Result<Who, NoAnswer>
     requires { room.members ≡ members_of room.policy }
     ensures ok { IfOk result (λ who. who_in (state_of room.policy room.board) wanted.now
         (option_copied console.entry) ≡ Ok who) }
     ensures decider { IfOk result HasDecider }
-    ensures fault { IfErr result (λ fault. fault ≢ why.NoMemory → who_in (state_of room.policy room.board) wanted.now
-        (option_copied console.entry) ≡ Err fault) }
+    ensures room { IfOk result (λ who. who.room ≡ room) }
+    ensures fault { IfErr result (λ none. none.fault ≢ why.NoMemory
+        → who_in (state_of room.policy room.board) wanted.now (option_copied console.entry) ≡ Err none.fault) }
+    ensures back { IfErr result (λ none. none.room ≡ room) }
 {
-    let at = asked_at(&room.board, wanted, console)?;
-    who_at(room, wanted, at)
+    match basis_in(&room, wanted, console) {
+        Ok(WhoBasis { at, decided, shows }) => Ok(Who {
+            wanted: *wanted,
+            active: room.policy.active.contains(wanted.class()),
+            decided,
+            shows,
+            room,
+            at,
+        }),
+        Err(fault) => Err(NoAnswer { fault, room }),
+    }
 }

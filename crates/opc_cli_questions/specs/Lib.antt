@@ -2,6 +2,7 @@ pub mod Asking
 pub mod Printed
 pub mod PolicyFiles
 pub mod Questions
+pub mod RoomAnswers
 pub mod Refusals
 pub mod Checks
 pub mod Noted

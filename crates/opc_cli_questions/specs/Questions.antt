@@ -3,7 +3,8 @@ use Rattle.std.specs.Prelude.{◌≡◌, ℕ, Bool, List, Option, Some, None, Re
 use Rattle.opc_terms.specs.declared.fault.Fault.{Fault}
 use Rattle.opc_policy_members.specs.declared.row.Row.{Row}
 use Rattle.opc_policy.specs.declared.verdict.Verdict.{Verdict}
-use Rattle.opc_answers.specs.Answers.{answer_of}
+use Rattle.opc_state.specs.State.{State}
+use Rattle.opc_answers.specs.Answers.{answer_made, answer_of}
 use Rattle.opc_answers.specs.Json.{who_json}
 use Rattle.opc_answers.specs.Texts.{who_text}
 use Rattle.opc_answers.specs.Why.{why_text}
@@ -55,3 +56,7 @@ question_answer ask rows = written ask.form (answer_of ask.question rows)
 -- this is that
 abbrev pub IsQuestionAnswer : Ask → List Row → Result PrintedAnswer Fault → Type 0
 IsQuestionAnswer ask rows answer = question_answer ask rows ≡ answer
+
+-- what the state that rows make answers
+abbrev pub IsStateAnswer : Ask → State → Result PrintedAnswer Fault → Type 0
+IsStateAnswer ask s answer = written ask.form (answer_made ask.question (Ok s)) ≡ answer

@@ -156,7 +156,7 @@ fn status_of(answer: &PolicyAnswer) -> Status
 }
 
 /// Prints an answer, and returns its status.
-fn print_answer<W: Write>(
+pub(crate) fn print_answer<W: Write>(
     alloc: Global,
     answer: &PolicyAnswer,
     form: Form,

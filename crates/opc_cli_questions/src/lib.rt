@@ -20,6 +20,7 @@ pub mod openings;
 pub mod policy_file;
 pub mod printing;
 pub mod refusals;
+pub mod room_answer;
 pub mod sheet;
 mod shown_rows;
 pub mod sides;

@@ -1,5 +1,5 @@
 -- The reply to a question, by the texts of policies.
-use Rattle.std.specs.Prelude.{◌≡◌, ◌⊎◌, ◌<◌, ◌≤◌, if◌then◌else◌, ℕ, List, [], Option, Some, IsUtf8, Vec, length}
+use Rattle.std.specs.Prelude.{◌≡◌, ◌⊎◌, ◌<◌, ◌≤◌, if◌then◌else◌, ℕ, List, [], Option, Some, IsUtf8, Vec, false, length}
 use Rattle.std.specs.declared.alloc.Global.{Global}
 use Rattle.opc_io.specs.declared.watched.Watched.{Watched}
 use Rattle.opc_cli_failures.specs.declared.status.Status.{Status}
@@ -47,6 +47,8 @@ pub record IsAsked (policy new question : List ℕ) (reply : Reply) : Type 0 whe
   pub quiet : Watched Bytes
   pub empty_before : before.inner.items ≡ []
   pub empty_quiet : quiet.inner.items ≡ []
+  pub fine_before : before.failed ≡ false
+  pub fine_quiet : quiet.failed ≡ false
   pub status : Status
   pub replied : IsReply policy new before reply.output quiet reply.errors status question
   pub status_is : reply.status ≡ status_told reply.errors status

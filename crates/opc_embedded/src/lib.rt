@@ -3,7 +3,9 @@
 
 pub mod asking;
 mod comparing;
+pub mod kept;
 pub mod reply;
+mod room;
 pub mod texts;
 pub mod unanswered;
 mod words;

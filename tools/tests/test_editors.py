@@ -49,7 +49,7 @@ class Signs(unittest.TestCase):
         self.assertEqual(sorted(sign for sign, *_ in ROW.findall(page())), sorted(signs))
 
     def test_digraphs_of_vim(self) -> None:
-        words = DIGRAPHS.search(page())[1].split()
+        words = " ".join(DIGRAPHS.findall(page())).split()
         made = dict(zip(words[::2], (chr(int(number)) for number in words[1::2])))
         typed = {keys: sign for sign, _, _, keys in ROW.findall(page())}
         self.assertEqual(made, {keys: typed.get(keys) for keys in made})

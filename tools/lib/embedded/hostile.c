@@ -1,7 +1,8 @@
 /* hostile FILE COUNT SEED [lying]: asks about policies with bytes turned, by questions that are turned, too, into rooms
  * of all sizes. Nothing may be written past a room, what is written has to be the beginning of the whole answer, and
- * the same question has the same answer. Ends with 'N passed, M failed'. `lying` passes each question as one byte
- * longer than it is, which a checker of memory has to see. */
+ * the same question has the same answer, twice by a policy that is kept, too; what was freed answers by a text of 0
+ * bytes. Ends with 'N passed, M failed'. `lying` passes each question as one byte longer than it is, which a checker of
+ * memory has to see. */
 #include "opcmds.h"
 #include <stdio.h>
 #include <stdlib.h>
@@ -123,25 +124,52 @@ static int is_kept_to(const uint8_t *room, size_t length, const uint8_t *whole, 
     return 1;
 }
 
-static uint32_t ask(text policy, text other, text question, uint8_t *const *rooms, const size_t *sizes,
-                    opcmds_lengths *lengths)
+/* An answer with room for all of it. */
+static struct whole {
+    uint32_t status;
+    opcmds_lengths lengths;
+    uint8_t output[WHOLE], errors[WHOLE];
+} whole;
+
+static void ask_all(text policy, text other, text question)
 {
-    return opcmds_ask(policy.bytes, policy.length, other.bytes, other.length, question.bytes, question.length, rooms[0],
-                      sizes[0], rooms[1], sizes[1], lengths);
+    whole.status = opcmds_ask(policy.bytes, policy.length, other.bytes, other.length, question.bytes, question.length,
+                              whole.output, WHOLE, whole.errors, WHOLE, &whole.lengths);
 }
 
-/* Asks once with room for all, and once with little; returns the status, or 4 if something is wrong. */
+/* Whether the same is answered into little room: by the text, or by what is kept. */
+static int is_answered_again(opcmds_kept *by, text policy, text other, text question)
+{
+    static uint8_t output[ROOM + GUARD], errors[ROOM + GUARD];
+    opcmds_lengths again;
+    size_t output_room = chance(ROOM), errors_room = chance(ROOM);
+    memset(output, 0xA5, sizeof output);
+    memset(errors, 0xA5, sizeof errors);
+    uint32_t status = by ? opcmds_ask_kept(by, other.bytes, other.length, question.bytes, question.length, output,
+                                           output_room, errors, errors_room, &again)
+                         : opcmds_ask(policy.bytes, policy.length, other.bytes, other.length, question.bytes,
+                                      question.length, output, output_room, errors, errors_room, &again);
+    return status == whole.status && again.output == whole.lengths.output && again.errors == whole.lengths.errors
+        && is_kept_to(output, output_room, whole.output, again.output)
+        && is_kept_to(errors, errors_room, whole.errors, again.errors);
+}
+
+static opcmds_kept kept; /* from call to call, so that a policy takes the place of another one */
+
+/* Returns the status, or 4 if something is wrong. */
 static uint32_t asked(text policy, text other, text question)
 {
-    static uint8_t whole[2][WHOLE], room[2][ROOM + GUARD];
-    opcmds_lengths full, again;
-    size_t sizes[2] = {chance(ROOM), chance(ROOM)};
-    uint32_t status = ask(policy, other, question, (uint8_t *[]){whole[0], whole[1]}, (size_t[]){WHOLE, WHOLE}, &full);
-    memset(room, 0xA5, sizeof room);
-    uint32_t other_status = ask(policy, other, question, (uint8_t *[]){room[0], room[1]}, sizes, &again);
-    int is_good = status < 4 && status == other_status && full.output == again.output && full.errors == again.errors
-        && full.output <= WHOLE && full.errors <= WHOLE && is_kept_to(room[0], sizes[0], whole[0], full.output)
-        && is_kept_to(room[1], sizes[1], whole[1], full.errors);
+    ask_all(policy, other, question);
+    int is_good = whole.status < 4 && whole.lengths.output <= WHOLE && whole.lengths.errors <= WHOLE
+        && is_answered_again(NULL, policy, other, question) && opcmds_keep(policy.bytes, policy.length, &kept) == 0
+        && is_answered_again(&kept, policy, other, question) && is_answered_again(&kept, policy, other, question);
+    uint32_t status = whole.status;
+    if (chance(2)) {
+        opcmds_free(&kept);
+        opcmds_free(&kept);
+        ask_all((text){policy.bytes, 0}, other, question);
+        is_good = is_good && is_answered_again(&kept, policy, other, question);
+    }
     return is_good ? status : 4;
 }
 
@@ -169,6 +197,7 @@ int main(int argc, char **argv)
         free(other.bytes);
         free(question.bytes);
     }
+    opcmds_free(&kept);
     fprintf(stderr, "statuses: %ld done, %ld refused, %ld invalid, %ld failed\n", statuses[0], statuses[1], statuses[2],
             statuses[3]);
     printf("%ld passed, %ld failed\n", count - statuses[4], statuses[4]);

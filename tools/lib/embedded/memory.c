@@ -1,6 +1,6 @@
-/* memory FILE: refuses the memory of each allocation in turn. The status is then 3, or the answer is whole; but of what
- * is wrong with the words of a question nothing may be said. It is linked with --wrap=malloc,--wrap=realloc. Ends with
- * 'N passed, M failed'. */
+/* memory FILE: refuses the memory of each allocation in turn, of calls with a text and of calls that keep it. The
+ * status is then 3, or the answer is whole. It is linked with --wrap=malloc,--wrap=realloc. Ends with 'N passed, M
+ * failed'. */
 #include "opcmds.h"
 #include <stdio.h>
 #include <stdlib.h>
@@ -8,17 +8,17 @@
 
 #define COUNT_OF(a) (sizeof(a) / sizeof((a)[0]))
 
-enum { POLICY = 1 << 20, ANSWER = 1 << 20, MISTAKEN = 6 };
+enum { POLICY = 1 << 20, ANSWER = 1 << 20, KEPT = 3 };
 
 /* (a tab stands for a NUL) */
 static const char *const QUESTIONS[] = {
     "explain\t--user\tANNA\t--command\tC PAYROLL\t--console\tC1\t--why",
     "who\t--command\tC PAYROLL\t--json",
-    "check",
+    "check", /* KEPT: the next ones ask what is kept for its text, as this one does */
     "may\t--user\tANNA",
     "diff\told.csv\tnew.csv",
     "sheet",
-    "explain", /* MISTAKEN: it lacks a user */
+    "explain", /* it lacks a user */
 };
 
 typedef struct answer {
@@ -52,8 +52,10 @@ static int is_same(const uint8_t *got, size_t length, const uint8_t *whole, size
     return length == full && memcmp(got, whole, full) == 0;
 }
 
-static void ask(const uint8_t *policy, size_t length, const char *question, answer *to)
+/* Keeps the policy, if it is to be kept, and asks. */
+static void ask(const uint8_t *policy, size_t length, const char *question, int is_kept, answer *to)
 {
+    opcmds_kept kept = {0};
     uint8_t words[256];
     size_t count = strlen(question);
     for (size_t i = 0; i < count; i++)
@@ -62,14 +64,43 @@ static void ask(const uint8_t *policy, size_t length, const char *question, answ
     size_t shorter = length - 1;
     while (shorter > 0 && policy[shorter - 1] != '\n')
         shorter--;
-    to->status = opcmds_ask(policy, length, policy, shorter, words, count, to->output, ANSWER, to->errors, ANSWER,
-                            &to->lengths);
+    if (!is_kept)
+        to->status = opcmds_ask(policy, length, policy, shorter, words, count, to->output, ANSWER, to->errors, ANSWER,
+                                &to->lengths);
+    else if ((to->status = opcmds_keep(policy, length, &kept)) == 0)
+        to->status = opcmds_ask_kept(&kept, policy, shorter, words, count, to->output, ANSWER, to->errors, ANSWER,
+                                     &to->lengths);
+    opcmds_free(&kept);
+}
+
+static long passed, failed;
+
+/* Grants one allocation more each time, until the question has all that it wants. */
+static void refuse_each(const uint8_t *policy, size_t length, size_t which, int is_kept)
+{
+    static answer whole, got;
+    ask(policy, length, QUESTIONS[which], 0, &whole);
+    for (long granted = 0, is_done = 0; !is_done; granted++) {
+        left = granted;
+        ask(policy, length, QUESTIONS[which], is_kept, &got);
+        is_done = left > 0; /* it had all that it wanted */
+        left = -1;
+        int is_whole = got.status == whole.status
+            && is_same(got.output, got.lengths.output, whole.output, whole.lengths.output)
+            && is_same(got.errors, got.lengths.errors, whole.errors, whole.lengths.errors);
+        if (is_whole || (got.status == 3 && !is_done)) {
+            passed++;
+        } else {
+            failed++;
+            fprintf(stderr, "failed: %s, kept: %d, %ld granted: status %u\n", QUESTIONS[which], is_kept, granted,
+                    got.status);
+        }
+    }
 }
 
 int main(int argc, char **argv)
 {
     static uint8_t policy[POLICY];
-    static answer whole, got;
     if (argc != 2)
         return 2;
     FILE *file = fopen(argv[1], "rb");
@@ -77,25 +108,10 @@ int main(int argc, char **argv)
         return 2;
     size_t length = fread(policy, 1, sizeof policy, file);
     fclose(file);
-    long passed = 0, failed = 0;
     for (size_t which = 0; which < COUNT_OF(QUESTIONS); which++) {
-        ask(policy, length, QUESTIONS[which], &whole);
-        for (long granted = 0, is_done = 0; !is_done; granted++) {
-            left = granted;
-            ask(policy, length, QUESTIONS[which], &got);
-            is_done = left > 0; /* it had all that it wanted */
-            left = -1;
-            int has_errors = is_same(got.errors, got.lengths.errors, whole.errors, whole.lengths.errors);
-            int is_mute = which == MISTAKEN && got.lengths.errors == 0 && !is_done;
-            int is_whole = got.status == whole.status && (has_errors || is_mute)
-                && is_same(got.output, got.lengths.output, whole.output, whole.lengths.output);
-            if (is_whole || (got.status == 3 && !is_done)) {
-                passed++;
-            } else {
-                failed++;
-                fprintf(stderr, "failed: %s, %ld granted: status %u\n", QUESTIONS[which], granted, got.status);
-            }
-        }
+        refuse_each(policy, length, which, 0);
+        if (which < KEPT)
+            refuse_each(policy, length, which, 1);
     }
     printf("%ld passed, %ld failed\n", passed, failed);
     return failed != 0;

@@ -1,5 +1,6 @@
 /* threads FILE: four threads with 512 KB of stack ask the same questions side by side, one of them as long as a
- * question may be, and each has the answers of one that asks alone. Ends with 'N passed, M failed'. */
+ * question may be, by a text and by a policy of their own that is kept, and each has the answers of one that asks
+ * alone. Ends with 'N passed, M failed'. */
 #include "opcmds.h"
 #include <pthread.h>
 #include <stdio.h>
@@ -38,6 +39,12 @@ static void ask(size_t which, answer *to)
                             QUESTIONS[which].length, to->output, ROOM, to->errors, ROOM, &to->lengths);
 }
 
+static void ask_kept(opcmds_kept *kept, size_t which, answer *to)
+{
+    to->status = opcmds_ask_kept(kept, policy, shorter, (const uint8_t *)QUESTIONS[which].words,
+                                 QUESTIONS[which].length, to->output, ROOM, to->errors, ROOM, &to->lengths);
+}
+
 static int is_same(const answer *one, const answer *other)
 {
     return one->status == other->status && one->lengths.output == other->lengths.output
@@ -56,15 +63,23 @@ static void fill_allowing(void)
         memcpy(allowing + length, code, sizeof code - 1);
 }
 
-static void *run(void *failures)
+typedef struct asker {
+    opcmds_kept kept; /* of the thread that starts this one, which frees it */
+    long failures;
+} asker;
+
+static void *run(void *its)
 {
+    asker *me = its;
     answer *got = malloc(sizeof *got);
     for (size_t at = 0; got && at < TIMES * COUNT_OF(QUESTIONS); at++) {
-        ask(at % COUNT_OF(QUESTIONS), got);
-        *(long *)failures += !is_same(got, &alone[at % COUNT_OF(QUESTIONS)]);
+        size_t which = at % COUNT_OF(QUESTIONS);
+        ask(which, got);
+        me->failures += !is_same(got, &alone[which]);
+        ask_kept(&me->kept, which, got);
+        me->failures += !is_same(got, &alone[which]);
     }
-    if (!got)
-        *(long *)failures += 1;
+    me->failures += !got;
     free(got);
     return NULL;
 }
@@ -85,16 +100,19 @@ int main(int argc, char **argv)
         ask(which, &alone[which]);
     pthread_attr_t small;
     pthread_t threads[THREADS];
-    long failures[THREADS] = {0}, failed = 0;
+    static asker askers[THREADS];
+    long failed = 0;
     if (pthread_attr_init(&small) != 0 || pthread_attr_setstacksize(&small, STACK) != 0)
         return 3;
     for (size_t i = 0; i < THREADS; i++)
-        if (pthread_create(&threads[i], &small, run, &failures[i]) != 0)
+        if (opcmds_keep(policy, policy_length, &askers[i].kept) != 0
+            || pthread_create(&threads[i], &small, run, &askers[i]) != 0)
             return 3;
     for (size_t i = 0; i < THREADS; i++) {
         pthread_join(threads[i], NULL);
-        failed += failures[i];
+        failed += askers[i].failures;
+        opcmds_free(&askers[i].kept);
     }
-    printf("%ld passed, %ld failed\n", (long)(THREADS * TIMES * COUNT_OF(QUESTIONS)) - failed, failed);
+    printf("%ld passed, %ld failed\n", (long)(2 * THREADS * TIMES * COUNT_OF(QUESTIONS)) - failed, failed);
     return failed != 0;
 }

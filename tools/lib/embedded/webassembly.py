@@ -7,7 +7,7 @@ import os
 import re
 
 from lib import kit
-from lib.embedded.making import EXPORT, MODULE, as_text, run
+from lib.embedded.making import EXPORTS, MODULE, as_text, run
 from lib.unproved.compiling import Failed
 
 LAYOUT = "e-m:e-p:64:64-p10:8:8-p20:8:8-i64:64-i128:128-n32:64-S128-ni:1:10:20"  # the kit's own for wasm64
@@ -60,7 +60,7 @@ def retargeted(text: str, export: str) -> str:
 def make(room: str) -> str:
     """Compiles the module that was kept beside the library; returns the file."""
     tools = f"{kit.rtlib().KIT}/toolchain/bin"
-    text = retargeted(as_text(MODULE, "x64.ll", room), EXPORT)
+    text = retargeted(as_text(MODULE, "x64.ll", room), EXPORTS[0])
     with open(f"{room}/wasm64.ll", "w", encoding="utf-8") as file:
         file.write(text)
     run([f"{tools}/clang", *FLAGS, "-c", "-x", "ir", "wasm64.ll", "-o", "module.o"], room)

@@ -1,13 +1,4 @@
-use Rattle.std.proofs.Common.{rules}
 use Rattle.opc_c.proofs.reply_into.Goals as goal
 
 pub returns : goal.returns
-returns c = record {
-  reply = c.ask-reply.result;
-  asked = c.ask-reply.ensures;
-  status_is = search rules;
-  output_put = search rules;
-  errors_put = search rules;
-  output_length = search rules;
-  errors_length = search rules;
-}
+returns c = (c.ask-reply.result, c.ask-reply.ensures, c.put_reply.ensures)

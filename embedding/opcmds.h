@@ -30,10 +30,11 @@
  * writes it, and no copy of it is passed to them, or what it keeps is freed twice.
  *
  * Threads: calls may run side by side in any threads, if each has an `opcmds_kept` of its own, or none. One
- * `opcmds_kept` is passed to one call at a time, in any thread. The library itself keeps nothing from call to call,
- * starts no thread and takes no lock. It is not for a signal handler, and not for the forked child of a process with
- * threads. It calls malloc, realloc and free, which have to return blocks aligned to 16, and memcpy, memmove and
- * memset. Give a thread that asks 512 KB of stack. */
+ * `opcmds_kept` is passed to one call at a time, in any thread; between the calls of two threads stands a lock, or the
+ * start or the end of a thread. The library itself keeps nothing from call to call, starts no thread and takes no lock.
+ * It is not for a signal handler, and not for the forked child of a process with threads. It calls malloc, realloc and
+ * free, which have to return blocks aligned to 16, and memcpy, memmove and memset. Give a thread that asks 512 KB of
+ * stack. */
 #ifndef OPCMDS_H
 #define OPCMDS_H
 

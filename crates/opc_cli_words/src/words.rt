@@ -167,6 +167,7 @@ fn report_words<W: Write, E: Write>(
         ErrorKind::DisplayVersion => report_version(output, errors),
         // Every other kind is a mistake in the arguments.
         _ => {
+            // The status reports the mistake even if it cannot be printed; whoever asks can see that it was not.
             errors.failed |= write!(errors.inner, "{error}").is_err();
             errors.failed |= note_slip(after_first(words), &mut errors.inner).is_err();
             Status::BadInput

@@ -1,5 +1,6 @@
--- What the walks of a handle share. Assumes `Logic`.
---     E, Z, Boxed, Handle     the kept value with its allocator, for the steps on boxes;  as rows the allocator, a box as its pointer, and a handle of C
+-- What the proofs of the handle share, which go along the code statement by statement. Assumes `Logic`.
+--     E, Z, Boxed, Handle     the kept policy with its allocator, for the steps on boxes; as rows the allocator, a box as
+--                             its pointer, and the handle of C
 --     both, null_good         the machine value of a handle, and that it is of its type at null
 --     handle_out, handle_in   a handle by value is [what it keeps; the allocator's handle]
 --     either_kept             it keeps nothing and points nowhere, or it keeps a box
